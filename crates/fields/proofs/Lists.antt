@@ -1,0 +1,34 @@
+-- Bytes stored one run after the other, and the numbers that parts of bytes mean.
+use Prim.Native.Nat.{ℕ, zero, suc, _+_, _%_, _^_, _≤_}
+use mathlib.Core.Path.{_≡_, _∙_}
+use mathlib.Core.List.{List, [], _∷_, _++_, append-assoc}
+use native.Mathlib.Omega.{arith}
+use lib.ListN.{length, take, drop, length-append, length-take, length-drop}
+use lib.Seq.{sets-eq, take-at, drop-append-add, drop-drop, getD-drop}
+use borrow.Author.Tests.{le-leb}
+use Rattle.fields.specs.Endian.{number, Bytes}
+use Rattle.fields.specs.Output.{over, stored}
+use Rattle.fields.proofs.Endian.{number-fits}
+
+-- more bytes straight after those over the start of the output
+pub stored-over : (xs ys out : List ℕ) (n : ℕ) → length xs ≡ n → n + length ys ≤ length out → stored (over xs out) n ys ≡ over (xs ++ ys) out
+unfolding stored
+stored-over xs ys out n e h =
+    let whole : length (over xs out) ≡ length out = rw (length-append, length-drop) (omega arith) in
+    let fits : n + length ys ≤ length (over xs out) = rw whole h in
+    let after : drop (n + length ys) (xs ++ drop (length xs) out) ≡ drop (n + length ys) out = rw (← e, drop-append-add, drop-drop) in
+    simp (le-leb _ _ fits, sets-eq ys (over xs out) n fits, take-at xs (drop (length xs) out) n e, after, append-assoc, length-append, e)
+
+pub bytes-drop : (n : ℕ) (bs : List ℕ) → Bytes bs → Bytes (drop n bs)
+bytes-drop n bs h i = rw getD-drop (h (n + i))
+
+pub bytes-take : (n : ℕ) (bs : List ℕ) → Bytes bs → Bytes (take n bs)
+bytes-take zero bs h i = omega arith
+bytes-take (suc n) [] h i = h i
+bytes-take (suc n) (b ∷ bs) h zero = h 0
+bytes-take (suc n) (b ∷ bs) h (suc i) = bytes-take n bs (λ j. h (suc j)) i
+
+-- a part of at most four bytes means a number of 32 bits
+pub part-fits : (bs : List ℕ) → Bytes bs → (at width : ℕ) → width ≤ 4 → number (take width (drop at bs)) % 2 ^ 32 ≡ number (take width (drop at bs))
+part-fits bs h at width k =
+    number-fits (take width (drop at bs)) (bytes-take width (drop at bs) (bytes-drop at bs h)) (rw length-take (omega arith))

@@ -1,0 +1,21 @@
+-- Numbers as bytes, most significant first (Adobe 4: network byte order).
+use Prim.Native.Nat.{ℕ, zero, suc, _+_, _*_, _/_, _%_, _^_, _<_}
+use mathlib.Core.List.{List, [], _∷_}
+use lib.ListN.{getD}
+
+-- the last n bytes of x
+unfoldable pub bigEndian : ℕ → ℕ → List ℕ
+bigEndian zero x = []
+bigEndian (suc n) x = x / 256 ^ n % 256 ∷ bigEndian n x
+
+-- the number that bytes mean, after what was gathered before them
+unfoldable pub gather : ℕ → List ℕ → ℕ
+gather before [] = before
+gather before (b ∷ bs) = gather (before * 256 + b) bs
+
+abbrev pub number : List ℕ → ℕ
+number bs = gather 0 bs
+
+-- every element is a byte
+abbrev pub Bytes : List ℕ → Type 0
+Bytes bs = (i : ℕ) → getD bs i 0 < 256

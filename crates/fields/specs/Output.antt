@@ -1,0 +1,15 @@
+-- A lent output that is written from its start, byte after byte.
+use Prim.Native.Nat.{ℕ, _+_}
+use mathlib.Core.Bool.{cond}
+use mathlib.Core.List.{List, _++_}
+use lib.Dec.{leb}
+use lib.ListN.{length, drop}
+use lib.Seq.{sets}
+
+-- the bytes over the first of the output, whose others stay as they were
+abbrev pub over : List ℕ → List ℕ → List ℕ
+over bytes output = bytes ++ drop (length bytes) output
+
+-- the bytes stored from a place on; where the output does not reach that far it stays as it was
+unfoldable pub stored : List ℕ → ℕ → List ℕ → List ℕ
+stored output at bytes = cond (leb (at + length bytes) (length output)) (sets output at bytes) output

@@ -1,0 +1,4 @@
+pub mod Body
+pub mod Answer
+pub mod Reading
+pub mod Writing
