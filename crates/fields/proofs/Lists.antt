@@ -1,7 +1,7 @@
 -- Bytes stored one run after the other, and the numbers that parts of bytes mean.
 use Prim.Native.Nat.{ℕ, zero, suc, _+_, _%_, _^_, _≤_}
-use mathlib.Core.Path.{_≡_, _∙_}
-use mathlib.Core.List.{List, [], _∷_, _++_, append-assoc}
+use mathlib.Core.Path.{_≡_, refl, ap, _∙_}
+use mathlib.Core.List.{List, [], _∷_, _++_}
 use native.Mathlib.Omega.{arith}
 use lib.ListN.{length, take, drop, length-append, length-take, length-drop}
 use lib.Seq.{sets-eq, take-at, drop-append-add, drop-drop, getD-drop}
@@ -17,7 +17,12 @@ stored-over xs ys out n e h =
     let whole : length (over xs out) ≡ length out = rw (length-append, length-drop) (omega arith) in
     let fits : n + length ys ≤ length (over xs out) = rw whole h in
     let after : drop (n + length ys) (xs ++ drop (length xs) out) ≡ drop (n + length ys) out = rw (← e, drop-append-add, drop-drop) in
-    simp (le-leb _ _ fits, sets-eq ys (over xs out) n fits, take-at xs (drop (length xs) out) n e, after, append-assoc, length-append, e)
+    rw (le-leb (n + length ys) (length (over xs out)) fits, sets-eq ys (over xs out) n fits, take-at xs (drop (length xs) out) n e, after, length-append, e) refl
+
+-- the same, as a step of a run of stores
+pub stored-next : (xs ys out : List ℕ) {o o′ : List ℕ} (n : ℕ) → o′ ≡ stored o n ys → o ≡ over xs out → length xs ≡ n → n + length ys ≤ length out
+    → o′ ≡ over (xs ++ ys) out
+stored-next xs ys out n e f k h = e ∙ ap (λ (l : List ℕ). stored l n ys) f ∙ stored-over xs ys out n k h
 
 pub bytes-drop : (n : ℕ) (bs : List ℕ) → Bytes bs → Bytes (drop n bs)
 bytes-drop n bs h i = rw getD-drop (h (n + i))

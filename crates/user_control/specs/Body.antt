@@ -45,5 +45,8 @@ fours [] = []
 fours (n ∷ ns) = bigEndian 4 n ++ fours ns
 
 -- "two-byte code, then big-endian numbers"
-unfoldable pub body : UserControlEvent → List ℕ
-body e = bigEndian 2 (code e) ++ fours (numbers e)
+abbrev pub bodyOf : ℕ → List ℕ → List ℕ
+bodyOf c ns = bigEndian 2 c ++ fours ns
+
+abbrev pub body : UserControlEvent → List ℕ
+body e = bodyOf (code e) (numbers e)

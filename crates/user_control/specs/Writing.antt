@@ -1,15 +1,14 @@
--- What writing an event answers and leaves (document 01, refusal 5): its body at the start of the output, and no other byte touched.
+-- What writing a body answers and leaves (document 01, refusal 5): its bytes at the start of the output, and no other byte touched.
 use Prim.Native.Nat.{ℕ}
 use mathlib.Core.Bool.{Bool, cond}
-use mathlib.Core.List.{List, [], _∷_, _++_}
+use mathlib.Core.List.{List, [], _∷_}
 use mathlib.Core.Path.{_≡_}
 use lib.Dec.{ltb}
-use lib.ListN.{length, drop}
+use lib.ListN.{length}
+use Rattle.fields.specs.Output.{over}
 use Rattle.fields.specs.Refusal.{refuse_when_, judge}
-use Rattle.user_control.specs.declared.UserControlEvent.{UserControlEvent}
 use Rattle.user_control.specs.declared.Serialized.{Serialized}
 use Rattle.user_control.specs.Answer.{Answer, wrote, refused, writeAnswer}
-use Rattle.user_control.specs.Body.{body}
 
 -- the output is shorter than the exact bytes needed
 abbrev pub lacks : List ℕ → List ℕ → Bool
@@ -19,7 +18,7 @@ unfoldable pub writing : List ℕ → List ℕ → Answer
 writing bytes output = judge ((refuse 5 when lacks output bytes) ∷ []) refused (wrote (length bytes))
 
 unfoldable pub leaves : List ℕ → List ℕ → List ℕ
-leaves bytes output = cond (lacks output bytes) output (bytes ++ drop (length bytes) output)
+leaves bytes output = cond (lacks output bytes) output (over bytes output)
 
 -- what writing these bytes promises of its answer and of the output at exit
 pub record Writes (bytes output : List ℕ) (r : Serialized) (output′ : List ℕ) : Type 0 where

@@ -1,15 +1,16 @@
 // The bodies of user control messages (messages/types/user_control.rs of rml_rtmp).
 ghost use mathlib.Core.Path.{_≡_};
-ghost use mathlib.Core.List.{_++_};
-ghost use Rattle.fields.specs.Endian.{bigEndian};
 ghost use Rattle.user_control.specs.Answer.{readAnswer};
 ghost use Rattle.user_control.specs.Body.{body};
 ghost use Rattle.user_control.specs.Reading.{reading};
 ghost use Rattle.user_control.specs.Writing.{Writes};
 mod length;
+mod write;
 use crate::length::body_length;
+use crate::write::write_length_event;
+use crate::write::write_stream_event;
+use crate::write::write_timestamp_event;
 use fields::number_at;
-use fields::put_number;
 use time::RtmpTimestamp;
 
 // One case for each event, with exactly its numbers.
@@ -70,5 +71,24 @@ pub fn deserialize(bytes: &[u8]) -> Deserialized
         31 => Deserialized::Event(UserControlEvent::BufferEmpty { stream_id: number }),
         32 => Deserialized::Event(UserControlEvent::BufferReady { stream_id: number }),
         _ => Deserialized::UnknownCode,
+    }
+}
+
+// Writes the body of `event` at the start of `output`.
+pub fn serialize(event: UserControlEvent, output: &mut [u8]) -> Serialized
+    ensures { λ r. ⌜ Writes (body event) (now (output .entry)) r (now (output .exit)) ⌝ }
+{
+    match event {
+        UserControlEvent::StreamBegin { stream_id } => write_stream_event(0, stream_id, output),
+        UserControlEvent::StreamEof { stream_id } => write_stream_event(1, stream_id, output),
+        UserControlEvent::StreamDry { stream_id } => write_stream_event(2, stream_id, output),
+        UserControlEvent::SetBufferLength { stream_id, buffer_length } => {
+            write_length_event(3, stream_id, buffer_length, output)
+        }
+        UserControlEvent::StreamIsRecorded { stream_id } => write_stream_event(4, stream_id, output),
+        UserControlEvent::PingRequest { timestamp } => write_timestamp_event(6, timestamp, output),
+        UserControlEvent::PingResponse { timestamp } => write_timestamp_event(7, timestamp, output),
+        UserControlEvent::BufferEmpty { stream_id } => write_stream_event(31, stream_id, output),
+        UserControlEvent::BufferReady { stream_id } => write_stream_event(32, stream_id, output),
     }
 }
