@@ -4,11 +4,11 @@ use mathlib.Core.Path.{_≡_, refl, ap, _∙_}
 use mathlib.Core.List.{List, [], _∷_, _++_}
 use native.Mathlib.Omega.{arith}
 use lib.ListN.{length, take, drop, length-append, length-take, length-drop}
-use lib.Seq.{sets-eq, take-at, drop-append-add, drop-drop, getD-drop}
+use lib.Seq.{length-take-le, sets-eq, take-at, drop-append-add, drop-drop, getD-drop}
 use borrow.Author.Tests.{le-leb}
-use Rattle.fields.specs.Endian.{number, Bytes}
+use Rattle.fields.specs.Endian.{bigEndian, number, Bytes}
 use Rattle.fields.specs.Output.{over, stored}
-use Rattle.fields.proofs.Endian.{number-fits}
+use Rattle.fields.proofs.Endian.{number-fits, big-gather}
 
 -- more bytes straight after those over the start of the output
 pub stored-over : (xs ys out : List ℕ) (n : ℕ) → length xs ≡ n → n + length ys ≤ length out → stored (over xs out) n ys ≡ over (xs ++ ys) out
@@ -37,3 +37,9 @@ bytes-take (suc n) (b ∷ bs) h (suc i) = bytes-take n bs (λ j. h (suc j)) i
 pub part-fits : (bs : List ℕ) → Bytes bs → (at width : ℕ) → width ≤ 4 → number (take width (drop at bs)) % 2 ^ 32 ≡ number (take width (drop at bs))
 part-fits bs h at width k =
     number-fits (take width (drop at bs)) (bytes-take width (drop at bs) (bytes-drop at bs h)) (rw length-take (omega arith))
+
+-- the first n bytes, read and written again
+pub big-take : (n : ℕ) (bs : List ℕ) → Bytes bs → n ≤ length bs → bigEndian n (number (take n bs)) ≡ take n bs
+big-take n bs h k =
+    let e : length (take n bs) ≡ n = length-take-le n bs k in
+    rw e at (big-gather 0 (take n bs) (bytes-take n bs h))

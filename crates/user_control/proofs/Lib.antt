@@ -1,3 +1,5 @@
 pub mod Codes
 pub mod Reading
+pub mod RoundTrip
+pub mod Unique
 pub mod Writing
