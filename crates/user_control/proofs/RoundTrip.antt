@@ -22,7 +22,7 @@ use Rattle.user_control.specs.declared.UserControlEvent.the-variants.{
   PingRequest,
   PingResponse,
   BufferEmpty,
-  BufferReady
+  BufferReady,
 }
 use Rattle.user_control.specs.Body.{code, numbers, fours, bodyOf, body}
 use Rattle.user_control.specs.Answer.{Answer, event, refused}
@@ -99,6 +99,6 @@ write-read bytes B e h =
     let rest : 4 * length (numbers e) ≤ length (drop 2 bytes) = rw length-drop (omega (arith, f .1)) in
     let head : bigEndian 2 (code e) ≡ take 2 bytes = rw (← r .0) (big-take 2 bytes B (omega arith)) in
     let tail : fours (numbers e) ≡ take (4 * length (numbers e)) (drop 2 bytes) =
-        rw (← f .1, ← r .1) (fours-numbers (count (code e)) (drop 2 bytes) (bytes-drop 2 bytes B) (rw (f .1) rest))
+    rw (← f .1, ← r .1) (fours-numbers (count (code e)) (drop 2 bytes) (bytes-drop 2 bytes B) (rw (f .1) rest))
     in
     rw (size, take-add 2 (4 * length (numbers e)) bytes, head, tail)

@@ -16,7 +16,7 @@ use Rattle.user_control.specs.declared.UserControlEvent.the-variants.{
   PingRequest,
   PingResponse,
   BufferEmpty,
-  BufferReady
+  BufferReady,
 }
 use Rattle.user_control.specs.declared.Deserialized.{Deserialized}
 use Rattle.user_control.specs.declared.Deserialized.the-variants.{Event, BodyTooShort, UnknownCode}

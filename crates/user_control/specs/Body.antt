@@ -12,7 +12,7 @@ use Rattle.user_control.specs.declared.UserControlEvent.the-variants.{
   PingRequest,
   PingResponse,
   BufferEmpty,
-  BufferReady
+  BufferReady,
 }
 
 -- each event's code ..

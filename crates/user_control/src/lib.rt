@@ -4,8 +4,10 @@ ghost use Rattle.user_control.specs.Answer.{readAnswer};
 ghost use Rattle.user_control.specs.Body.{body};
 ghost use Rattle.user_control.specs.Reading.{reading};
 ghost use Rattle.user_control.specs.Writing.{Writes};
+
 mod length;
 mod write;
+
 use crate::length::body_length;
 use crate::write::write_length_event;
 use crate::write::write_stream_event;
@@ -66,8 +68,12 @@ pub fn deserialize(bytes: &[u8]) -> Deserialized
             buffer_length: number_at(bytes, 6, 4),
         }),
         4 => Deserialized::Event(UserControlEvent::StreamIsRecorded { stream_id: number }),
-        6 => Deserialized::Event(UserControlEvent::PingRequest { timestamp: timestamp }),
-        7 => Deserialized::Event(UserControlEvent::PingResponse { timestamp: timestamp }),
+        6 => Deserialized::Event(UserControlEvent::PingRequest {
+            timestamp: timestamp,
+        }),
+        7 => Deserialized::Event(UserControlEvent::PingResponse {
+            timestamp: timestamp,
+        }),
         31 => Deserialized::Event(UserControlEvent::BufferEmpty { stream_id: number }),
         32 => Deserialized::Event(UserControlEvent::BufferReady { stream_id: number }),
         _ => Deserialized::UnknownCode,
@@ -82,10 +88,15 @@ pub fn serialize(event: UserControlEvent, output: &mut [u8]) -> Serialized
         UserControlEvent::StreamBegin { stream_id } => write_stream_event(0, stream_id, output),
         UserControlEvent::StreamEof { stream_id } => write_stream_event(1, stream_id, output),
         UserControlEvent::StreamDry { stream_id } => write_stream_event(2, stream_id, output),
-        UserControlEvent::SetBufferLength { stream_id, buffer_length } => {
-            write_length_event(3, stream_id, buffer_length, output)
-        }
-        UserControlEvent::StreamIsRecorded { stream_id } => write_stream_event(4, stream_id, output),
+        UserControlEvent::SetBufferLength {
+            stream_id,
+            buffer_length,
+        } => { write_length_event(3, stream_id, buffer_length, output) }
+        UserControlEvent::StreamIsRecorded { stream_id } => write_stream_event(
+            4,
+            stream_id,
+            output,
+        ),
         UserControlEvent::PingRequest { timestamp } => write_timestamp_event(6, timestamp, output),
         UserControlEvent::PingResponse { timestamp } => write_timestamp_event(7, timestamp, output),
         UserControlEvent::BufferEmpty { stream_id } => write_stream_event(31, stream_id, output),

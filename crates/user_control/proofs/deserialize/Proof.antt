@@ -106,7 +106,7 @@ returns-12 c =
     let r = c .match .rest in
     let result = j .before .before .before .before .number-at .result in
     let other : known result ≡ false =
-        unknown-other result (r .0 .0 .0 .0 .0 .0 .0 .0 .1) (r .0 .0 .0 .0 .0 .0 .0 .1) (r .0 .0 .0 .0 .0 .0 .1) (r .0 .0 .0 .0 .0 .1) (r .0 .0 .0 .0 .1) (r .0 .0 .0 .1) (r .0 .0 .1) (r .0 .1) (r .1)
+    unknown-other result (r .0 .0 .0 .0 .0 .0 .0 .0 .1) (r .0 .0 .0 .0 .0 .0 .0 .1) (r .0 .0 .0 .0 .0 .0 .1) (r .0 .0 .0 .0 .0 .1) (r .0 .0 .0 .0 .1) (r .0 .0 .0 .1) (r .0 .0 .1) (r .0 .1) (r .1)
     in
     let read : result ≡ codeIn (input j) = j .before .before .before .before .number-at .ensures ∙ code-read (input j) (bytes j) (omega arith) in
     sym (reads-unknown (input j) (omega arith) (sym (ap known read) ∙ other))
