@@ -1,14 +1,19 @@
--- Numbers as bytes, most significant first (Adobe 4: network byte order).
+-- Numbers as bytes (Adobe 4: most significant first, "unless said otherwise").
 use Prim.Native.Nat.{ℕ, zero, suc, _+_, _*_, _/_, _%_, _^_, _<_}
 use mathlib.Core.List.{List, [], _∷_}
 use lib.ListN.{getD}
 
--- the last n bytes of x
+-- the last n bytes of x, most significant first
 unfoldable pub bigEndian : ℕ → ℕ → List ℕ
 bigEndian zero x = []
 bigEndian (suc n) x = x / 256 ^ n % 256 ∷ bigEndian n x
 
--- the number that bytes mean, after what was gathered before them
+-- the last n bytes of x, least significant first
+unfoldable pub littleEndian : ℕ → ℕ → List ℕ
+littleEndian zero x = []
+littleEndian (suc n) x = x % 256 ∷ littleEndian n (x / 256)
+
+-- the number that bytes mean, most significant first, after what was gathered before them
 unfoldable pub gather : ℕ → List ℕ → ℕ
 gather before [] = before
 gather before (b ∷ bs) = gather (before * 256 + b) bs

@@ -1,3 +1,3 @@
+pub mod Cases
 pub mod Endian
 pub mod Output
-pub mod Refusal

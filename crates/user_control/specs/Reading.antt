@@ -5,7 +5,7 @@ use mathlib.Core.List.{List, [], _∷_}
 use lib.Dec.{ltb, eqb}
 use lib.ListN.{length, take, drop}
 use Rattle.fields.specs.Endian.{number}
-use Rattle.fields.specs.Refusal.{refuse_when_, judge}
+use Rattle.fields.specs.Cases.{_when_, first}
 use Rattle.user_control.specs.Answer.{Answer, event, refused}
 
 -- the first two bytes
@@ -43,5 +43,5 @@ short bytes = ltb (length bytes) 2 || (known (codeIn bytes) && ltb (length bytes
 
 unfoldable pub reading : List ℕ → Answer
 reading bytes =
-    judge ((refuse 15 when short bytes) ∷ (refuse 16 when not (known (codeIn bytes))) ∷ []) refused
+    first (refused 15 when short bytes ∷ refused 16 when not (known (codeIn bytes)) ∷ [])
     (event (codeIn bytes) (numbersIn (count (codeIn bytes)) (drop 2 bytes)))

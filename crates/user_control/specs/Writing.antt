@@ -6,7 +6,7 @@ use mathlib.Core.Path.{_≡_}
 use lib.Dec.{ltb}
 use lib.ListN.{length}
 use Rattle.fields.specs.Output.{over}
-use Rattle.fields.specs.Refusal.{refuse_when_, judge}
+use Rattle.fields.specs.Cases.{_when_, first}
 use Rattle.user_control.specs.declared.Serialized.{Serialized}
 use Rattle.user_control.specs.Answer.{Answer, wrote, refused, writeAnswer}
 
@@ -15,7 +15,7 @@ abbrev pub lacks : List ℕ → List ℕ → Bool
 lacks output bytes = ltb (length output) (length bytes)
 
 unfoldable pub writing : List ℕ → List ℕ → Answer
-writing bytes output = judge ((refuse 5 when lacks output bytes) ∷ []) refused (wrote (length bytes))
+writing bytes output = first (refused 5 when lacks output bytes ∷ []) (wrote (length bytes))
 
 unfoldable pub leaves : List ℕ → List ℕ → List ℕ
 leaves bytes output = cond (lacks output bytes) output (over bytes output)

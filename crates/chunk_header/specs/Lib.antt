@@ -1,0 +1,4 @@
+pub mod Basic
+pub mod Header
+pub mod Layout
+pub mod Table

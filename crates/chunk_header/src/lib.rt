@@ -1,0 +1,146 @@
+// What a chunk's header is made of (chunk_io/chunk_header.rs of rml_rtmp).
+ghost use mathlib.Core.Path.{_≡_};
+ghost use Prim.Native.Nat.{_/_};
+ghost use Rattle.chunk_header.specs.Basic.{csid};
+ghost use Rattle.chunk_header.specs.Header.{nothing};
+ghost use Rattle.chunk_header.specs.Table.{typeOf, indexOf, fieldLength, headerLength};
+use time::RtmpTimestamp;
+
+// The four chunk types.
+pub enum ChunkHeaderFormat {
+    Full,
+    TimeDeltaWithoutMessageStreamId,
+    TimeDeltaOnly,
+    Empty,
+}
+
+// The fields of a message header, in their order.
+pub enum HeaderField {
+    Timestamp,
+    MessageLength,
+    MessageTypeId,
+    MessageStreamId,
+}
+
+// What is remembered of a chunk stream; no stream has the id 0.
+pub struct ChunkHeader {
+    pub chunk_stream_id: u32,
+    pub timestamp: RtmpTimestamp,
+    pub timestamp_field: u32,
+    pub message_length: u32,
+    pub message_type_id: u8,
+    pub message_stream_id: u32,
+    pub can_be_dropped: bool,
+}
+
+// A basic header, as far as it has come.
+pub enum Csid {
+    Id(u32),
+    Incomplete,
+}
+
+// Field lengths by chunk type: timestamp, message length, message type, message stream.
+const FIELD_LENGTHS: [usize; 16] = [3, 3, 1, 4, 3, 3, 1, 0, 3, 0, 0, 0, 0, 0, 0, 0];
+
+// Message header lengths by chunk type.
+const HEADER_LENGTHS: [usize; 4] = [11, 7, 3, 0];
+
+impl ChunkHeader {
+    pub fn new() -> ChunkHeader
+        ensures { λ r. ⌜ r ≡ nothing ⌝ }
+    {
+        ChunkHeader {
+            chunk_stream_id: 0,
+            timestamp: RtmpTimestamp::new(0),
+            timestamp_field: 0,
+            message_length: 0,
+            message_type_id: 0,
+            message_stream_id: 0,
+            can_be_dropped: false,
+        }
+    }
+}
+
+// 0 to 3.
+pub fn chunk_type(format: ChunkHeaderFormat) -> usize
+    ensures { λ r. ⌜ r ≡ typeOf format ⌝ }
+{
+    match format {
+        ChunkHeaderFormat::Full => 0,
+        ChunkHeaderFormat::TimeDeltaWithoutMessageStreamId => 1,
+        ChunkHeaderFormat::TimeDeltaOnly => 2,
+        ChunkHeaderFormat::Empty => 3,
+    }
+}
+
+fn field_index(field: HeaderField) -> usize
+    ensures { λ r. ⌜ r ≡ indexOf field ⌝ }
+{
+    match field {
+        HeaderField::Timestamp => 0,
+        HeaderField::MessageLength => 1,
+        HeaderField::MessageTypeId => 2,
+        HeaderField::MessageStreamId => 3,
+    }
+}
+
+// How many bytes a field takes in a chunk of this format.
+pub fn field_length(format: ChunkHeaderFormat, field: HeaderField) -> usize
+    ensures { λ r. ⌜ r ≡ fieldLength (typeOf format) (indexOf field) ⌝ }
+{
+    let at = chunk_type(format) * 4 + field_index(field);
+    FIELD_LENGTHS[at]
+}
+
+// How many bytes the message header takes in a chunk of this format.
+pub fn header_length(format: ChunkHeaderFormat) -> usize
+    ensures { λ r. ⌜ r ≡ headerLength (typeOf format) ⌝ }
+{
+    let at = chunk_type(format);
+    HEADER_LENGTHS[at]
+}
+
+// The format that a chunk's first byte says.
+pub fn get_format(byte: u8) -> ChunkHeaderFormat
+    ensures { λ r. ⌜ typeOf r ≡ byte / 64 ⌝ }
+{
+    if byte < 64 {
+        return ChunkHeaderFormat::Full;
+    }
+    if byte < 128 {
+        return ChunkHeaderFormat::TimeDeltaWithoutMessageStreamId;
+    }
+    if byte < 192 {
+        return ChunkHeaderFormat::TimeDeltaOnly;
+    }
+    ChunkHeaderFormat::Empty
+}
+
+fn wide(byte: u8) -> u32
+    ensures { λ r. ⌜ r ≡ byte ⌝ }
+{
+    byte as u32
+}
+
+// The chunk stream id that the bytes of a basic header say.
+pub fn get_csid(bytes: &[u8]) -> Csid
+    ensures { λ r. ⌜ r ≡ csid (now (bytes .entry)) ⌝ }
+{
+    if bytes.len() < 1 {
+        return Csid::Incomplete;
+    }
+    let n = bytes[0] % 64;
+    if n == 0 {
+        if bytes.len() < 2 {
+            return Csid::Incomplete;
+        }
+        return Csid::Id(wide(bytes[1]) + 64);
+    }
+    if n == 1 {
+        if bytes.len() < 3 {
+            return Csid::Incomplete;
+        }
+        return Csid::Id(256 * wide(bytes[2]) + wide(bytes[1]) + 64);
+    }
+    Csid::Id(wide(n))
+}

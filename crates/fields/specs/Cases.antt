@@ -1,0 +1,11 @@
+-- Rules in an order, as document 01 lists them: the first that applies decides.
+use mathlib.Core.Bool.{Bool, cond}
+use mathlib.Core.List.{List, [], _∷_}
+
+infix 70 _when_
+pub data Case (A : Type 0) : Type 0 where
+  _when_ : A → Bool → Case A
+
+abbrev pub first : {A : Type 0} → List (Case A) → A → A
+first [] otherwise = otherwise
+first ((a when b) ∷ cases) otherwise = cond b a (first cases otherwise)
