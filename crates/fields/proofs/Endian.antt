@@ -21,7 +21,7 @@ use lib.Arith.{mod-mul}
 use native.Mathlib.Numerals.{add-one}
 use lib.ListN.{length, take, drop, set, getD, length-set}
 use lib.Seq.{take-suc, drop-cons, getD-set-same, drop-set-lt}
-use Rattle.fields.specs.Endian.{bigEndian, gather, number, Bytes}
+use Rattle.fields.specs.Endian.{bigEndian, littleEndian, gather, number, Bytes}
 
 pub length-big : (n x : ℕ) → length (bigEndian n x) ≡ n
 unfolding bigEndian
@@ -99,3 +99,18 @@ drop-set-before xs i v p q =
     let e : suc (i - 1) ≡ i = omega arith in
     drop-cons (set xs (i - 1) v) (i - 1) 0 k
     ∙ rw (getD-set-same xs (i - 1) v 0, e) (ap (λ (l : List ℕ). v ∷ l) (drop-set-lt i xs (i - 1) v (omega arith)))
+
+pub length-little : (n x : ℕ) → length (littleEndian n x) ≡ n
+unfolding littleEndian
+length-little zero x = refl
+length-little (suc n) x = ap suc (length-little n (x / 256))
+
+pub bytes-little : (n x : ℕ) → Bytes (littleEndian n x)
+unfolding littleEndian
+bytes-little zero x i = omega arith
+bytes-little (suc n) x zero = omega arith
+bytes-little (suc n) x (suc i) = bytes-little n (x / 256) i
+
+-- the other order, by the number of the same bytes
+pub big-little : (n x : ℕ) → bigEndian n (number (littleEndian n x)) ≡ littleEndian n x
+big-little n x = rw (length-little n x) at (big-gather 0 (littleEndian n x) (bytes-little n x))

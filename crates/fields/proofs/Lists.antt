@@ -1,14 +1,52 @@
 -- Bytes stored one run after the other, and the numbers that parts of bytes mean.
-use Prim.Native.Nat.{ℕ, zero, suc, _+_, _%_, _^_, _≤_}
+use Prim.Native.Nat.{ℕ, zero, suc, _+_, _%_, _^_, _≤_, _<_}
 use mathlib.Core.Path.{_≡_, refl, ap, _∙_}
-use mathlib.Core.List.{List, [], _∷_, _++_}
+use mathlib.Core.List.{List, [], _∷_, _++_, append-assoc}
 use native.Mathlib.Omega.{arith}
-use lib.ListN.{length, take, drop, length-append, length-take, length-drop}
-use lib.Seq.{length-take-le, sets-eq, take-at, drop-append-add, drop-drop, getD-drop}
-use borrow.Author.Tests.{le-leb}
+use mathlib.Core.Bool.{Bool, true, false, cond}
+use lib.Dec.{leb}
+use native.Mathlib.Nat.{add-zero, add-suc, suc-add}
+use lib.ListN.{length, take, drop, set, length-append, length-take, length-drop}
+use lib.Seq.{length-take-le, length-sets, sets, sets-eq, take-at, drop-append-add, drop-drop, getD-drop}
+use borrow.Author.Tests.{le-leb, lt-leb}
 use Rattle.fields.specs.Endian.{bigEndian, number, Bytes}
 use Rattle.fields.specs.Output.{over, stored}
 use Rattle.fields.proofs.Endian.{number-fits, big-gather}
+
+-- a part of the output, written whole
+pub part-stored : (out bs : List ℕ) (at n : ℕ) → length bs ≡ n → at + n ≤ length out → take at out ++ (bs ++ drop n (drop at out)) ≡ stored out at bs
+unfolding stored
+part-stored out bs at n e h =
+    let fits : at + length bs ≤ length out = rw e h in
+    rw (le-leb (at + length bs) (length out) fits, sets-eq bs out at fits, drop-drop, ← e, append-assoc)
+
+-- an output that does not reach far enough
+pub stored-none : (out bs : List ℕ) (at n : ℕ) → length bs ≡ n → length out < at + n → out ≡ stored out at bs
+unfolding stored
+stored-none out bs at n e h = rw (e, lt-leb (at + n) (length out) h)
+
+pub length-stored : (out bs : List ℕ) (at : ℕ) → length (stored out at bs) ≡ length out
+unfolding stored
+length-stored out bs at = go (leb (at + length bs) (length out))
+  where
+    go : (b : Bool) → length (cond b (sets out at bs) out) ≡ length out
+    go true = length-sets out at bs
+    go false = refl
+
+sets-append : (l : List ℕ) (i : ℕ) (xs ys : List ℕ) → sets (sets l i xs) (i + length xs) ys ≡ sets l i (xs ++ ys)
+sets-append l i [] ys = rw add-zero
+sets-append l i (x ∷ xs) ys = rw (add-suc, ← suc-add) (sets-append (set l i x) (suc i) xs ys)
+
+-- two runs, the second straight after the first
+pub stored-append : (out xs ys : List ℕ) (at next : ℕ) → next ≡ at + length xs → next + length ys ≤ length out
+    → stored (stored out at xs) next ys ≡ stored out at (xs ++ ys)
+unfolding stored
+stored-append out xs ys at next e h =
+    let one : at + length xs ≤ length out = omega arith in
+    let two : next + length ys ≤ length (sets out at xs) = rw length-sets h in
+    let both : at + length (xs ++ ys) ≤ length out = rw length-append (omega arith) in
+    rw (le-leb (at + length xs) (length out) one, le-leb (next + length ys) (length (sets out at xs)) two, le-leb (at + length (xs ++ ys)) (length out) both, e)
+    (sets-append out at xs ys)
 
 -- more bytes straight after those over the start of the output
 pub stored-over : (xs ys out : List ℕ) (n : ℕ) → length xs ≡ n → n + length ys ≤ length out → stored (over xs out) n ys ≡ over (xs ++ ys) out

@@ -1,8 +1,8 @@
-// Numbers as bytes, most significant first: what every field of the wire is made of.
+// Bytes in lent slices: numbers, and runs of bytes, put at a place and read from a place.
 ghost use mathlib.Core.Path.{_≡_};
 ghost use Prim.Native.Nat.{_%_, _^_};
 ghost use lib.ListN.{length, take, drop};
-ghost use Rattle.fields.specs.Endian.{bigEndian, number};
+ghost use Rattle.fields.specs.Endian.{bigEndian, littleEndian, number};
 ghost use Rattle.fields.specs.Output.{stored};
 
 fn wide(byte: u8) -> u32
@@ -61,4 +61,38 @@ pub fn put_number(value: u32, width: usize, output: &mut [u8], at: usize)
         return;
     }
     write_number(value, &mut output[at..at + width]);
+}
+
+// The number of the same four bytes in the other order.
+pub fn swap_bytes(value: u32) -> u32
+    ensures { λ r. ⌜ r ≡ number (littleEndian 4 value) ⌝ }
+{
+    value % 256 * 16777216
+        + value / 256 % 256 * 65536
+        + value / 65536 % 256 * 256
+        + value / 16777216
+}
+
+fn copy(bytes: &[u8], output: &mut [u8])
+    requires { ⌜ length (now output) ≡ length (now bytes) ⌝ }
+    ensures { λ _. ⌜ now (output .exit) ≡ now (bytes .entry) ⌝ }
+{
+    let mut i = 0;
+    while i < bytes.len() {
+        output[i] = bytes[i];
+        i += 1;
+    }
+}
+
+// Puts the bytes from `at` on; where the output does not reach that far it stays as it is.
+pub fn put_bytes(bytes: &[u8], output: &mut [u8], at: usize)
+    ensures { λ _. ⌜ now (output .exit) ≡ stored (now (output .entry)) at (now (bytes .entry)) ⌝ }
+{
+    if output.len() < bytes.len() {
+        return;
+    }
+    if output.len() - bytes.len() < at {
+        return;
+    }
+    copy(bytes, &mut output[at..at + bytes.len()]);
 }

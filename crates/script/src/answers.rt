@@ -1,0 +1,23 @@
+// What a line answers.
+use crate::hex::put_hex;
+use crate::text::put;
+use crate::text::put_numbered;
+
+// The answer of a line, put behind the text so far.
+pub enum Answer {
+    // how long the text is now
+    Text(usize),
+    BadLine,
+}
+
+// Answers `refused K`.
+pub fn refused(text: &mut [u8], filled: usize, number: u64) -> Answer {
+    Answer::Text(put_numbered(text, filled, b"refused ", number))
+}
+
+// Answers `wrote N HEX`.
+pub fn wrote(text: &mut [u8], filled: usize, bytes: &[u8]) -> Answer {
+    let counted = put_numbered(text, filled, b"wrote ", bytes.len() as u64);
+    let spaced = put(text, counted, b' ');
+    Answer::Text(put_hex(text, spaced, bytes))
+}

@@ -1,0 +1,39 @@
+// Runs a script of the codec's calls: one call a line on standard input, one answer a line on
+// standard output.
+mod answers;
+mod control_calls;
+mod control_read;
+mod control_write;
+mod hex;
+mod input;
+mod lines;
+mod numbers;
+mod output;
+mod parts;
+mod state;
+mod text;
+mod time_calls;
+mod turns;
+mod words;
+
+// What is read: the unfinished line that is kept, of up to 262144 bytes, and at least as many more.
+const INPUT_LENGTH: usize = 524288;
+
+// Answers that wait to be written: up to 65536 bytes, and behind them one answer with a payload of
+// 262144 bytes in hex.
+const TEXT_LENGTH: usize = 655360;
+
+// The bytes that a line gives in hex: no line is long enough for more.
+const BYTES_LENGTH: usize = 131072;
+
+// The output that a call writes to: the most that a line may lend.
+const OUTPUT_LENGTH: usize = 131072;
+
+// Runs the script on standard input to its end, or to its first bad line.
+pub fn run() {
+    let mut input = [0u8; INPUT_LENGTH];
+    let mut text = [0u8; TEXT_LENGTH];
+    let mut bytes = [0u8; BYTES_LENGTH];
+    let mut output = [0u8; OUTPUT_LENGTH];
+    turns::run_all(&mut input, &mut text, &mut bytes, &mut output);
+}
