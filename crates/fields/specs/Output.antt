@@ -1,7 +1,8 @@
--- A lent output that is written from its start, byte after byte.
+-- A lent output that is written byte after byte.
 use Prim.Native.Nat.{ℕ, _+_}
 use mathlib.Core.Bool.{cond}
 use mathlib.Core.List.{List, _++_}
+use mathlib.Core.Path.{_≡_}
 use lib.Dec.{leb}
 use lib.ListN.{length, drop}
 use lib.Seq.{sets}
@@ -13,3 +14,8 @@ over bytes output = bytes ++ drop (length bytes) output
 -- the bytes stored from a place on; where the output does not reach that far it stays as it was
 unfoldable pub stored : List ℕ → ℕ → List ℕ → List ℕ
 stored output at bytes = cond (leb (at + length bytes) (length output)) (sets output at bytes) output
+
+-- the bytes are added at a place, and the next place is the one after them
+pub record Adds (output : List ℕ) (at : ℕ) (bytes : List ℕ) (next : ℕ) (output′ : List ℕ) : Type 0 where
+  pub place : next ≡ at + length bytes
+  pub left : output′ ≡ stored output at bytes

@@ -1,0 +1,5 @@
+pub mod Answer
+pub mod Header
+pub mod Message
+pub mod Packet
+pub mod Serialize

@@ -1,0 +1,91 @@
+-- What the encoder's calls answer and leave (document 01, "Encoder", refusals 1 to 5 and their order).
+use Prim.Native.Nat.{ℕ, _-_, max}
+use mathlib.Core.Bool.{true, false}
+use mathlib.Core.List.{List, [], _∷_}
+use lib.Dec.{ltb, eqb}
+use lib.ListN.{length, getD, set, replicate}
+use Rattle.fields.specs.Cases.{_when_, first}
+use Rattle.fields.specs.Endian.{bigEndian}
+use Rattle.fields.specs.Output.{over}
+use Rattle.chunk_header.specs.declared.ChunkHeader.{ChunkHeader}
+use Rattle.chunk_header.specs.Header.{nothing}
+use Rattle.serializer.specs.declared.ChunkSerializer.{ChunkSerializer}
+use Rattle.serializer.specs.declared.Serialized.{Serialized}
+use Rattle.serializer.specs.declared.format.Message.{Message}
+use Rattle.serializer.specs.Answer.{Answer, wrote, refused, answerOf}
+use Rattle.serializer.specs.Header.{header}
+use Rattle.serializer.specs.Message.{message, chunkStream}
+use Rattle.serializer.specs.Packet.{packet}
+
+-- the answer, the encoder and the output after a call
+pub record Outcome : Type 0 where
+  pub answer : Answer
+  pub serializer : ChunkSerializer
+  pub output : List ℕ
+
+abbrev pub outcomeOf : Serialized → List ℕ → Outcome
+outcomeOf r output = record { answer = answerOf (r .packet); serializer = r .serializer; output = output }
+
+-- the longest message, and the largest chunk size
+abbrev pub maxLength : ℕ
+maxLength = 16777215
+
+abbrev pub maxSize : ℕ
+maxSize = 2147483647
+
+-- the chunk size in force, which no call makes 0
+abbrev pub sizeOf : ChunkSerializer → ℕ
+sizeOf s = max 1 (s .«max_chunk_size»)
+
+-- the row of a message's chunk stream: 2 to 6 have rows 0 to 4
+abbrev pub rowOf : Message → ℕ
+rowOf m = chunkStream (m .«type_id») - 2
+
+abbrev pub previous : ChunkSerializer → Message → ChunkHeader
+previous s m = getD (s .«previous_headers») (rowOf m) nothing
+
+abbrev pub packetOf : ChunkSerializer → Message → List ℕ → List ℕ
+packetOf s m payload = packet (sizeOf s) m payload (previous s m)
+
+-- the encoder with the message's header remembered, and a chunk size
+abbrev pub remember : ChunkSerializer → Message → ℕ → ChunkSerializer
+remember s m size = record { «previous_headers» = set (s .«previous_headers») (rowOf m) (header m (previous s m)); «max_chunk_size» = size }
+
+-- a refusal leaves all as before
+abbrev pub refuse : ChunkSerializer → List ℕ → ℕ → Outcome
+refuse s output n = record { answer = refused n; serializer = s; output = output }
+
+-- the packet at the start of the output, the header remembered, and a chunk size from now on
+abbrev pub accept : ChunkSerializer → Message → List ℕ → ℕ → List ℕ → Outcome
+accept s m payload size output =
+    record { answer = wrote (length (packetOf s m payload)); serializer = remember s m size; output = over (packetOf s m payload) output }
+
+unfoldable pub serialized : ChunkSerializer → Message → List ℕ → List ℕ → Outcome
+serialized s m payload output =
+    first (refuse s output 1 when eqb (length payload) 0
+    ∷ refuse s output 2 when ltb maxLength (length payload)
+    ∷ refuse s output 5 when ltb (length output) (length (packetOf s m payload))
+    ∷ []) (accept s m payload (s .«max_chunk_size») output)
+
+-- "message type 1, stream 0, forced, not droppable, its body the new size in four bytes"
+abbrev pub sizeMessage : ℕ → Message
+sizeMessage time = message 1 0 time 4 true false
+
+-- "cut by the old size; the new size holds afterwards"
+unfoldable pub sizeChanged : ChunkSerializer → ℕ → ℕ → List ℕ → Outcome
+sizeChanged s size time output =
+    first (refuse s output 3 when eqb size 0
+    ∷ refuse s output 4 when ltb maxSize size
+    ∷ refuse s output 5 when ltb (length output) (length (packetOf s (sizeMessage time) (bigEndian 4 size)))
+    ∷ []) (accept s (sizeMessage time) (bigEndian 4 size) size output)
+
+-- a fresh encoder: nothing remembered, chunk size 128
+abbrev pub fresh : ChunkSerializer
+fresh = record { «previous_headers» = replicate 5 nothing; «max_chunk_size» = 128 }
+
+-- what a message takes, were the output long enough
+unfoldable pub needed : ChunkSerializer → Message → List ℕ → Answer
+needed s m payload =
+    first (refused 1 when eqb (length payload) 0
+    ∷ refused 2 when ltb maxLength (length payload)
+    ∷ []) (wrote (length (packetOf s m payload)))

@@ -1,0 +1,2 @@
+// How a packet is written.
+ghost use mathlib.Core.Path.{_≡_};
