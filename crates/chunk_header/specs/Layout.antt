@@ -51,5 +51,5 @@ abbrev pub extendedBytes : Extended → List ℕ
 extendedBytes absent = []
 extendedBytes (present time) = bigEndian 4 time
 
-abbrev pub chunkBytes : Chunk → List ℕ
+unfoldable pub chunkBytes : Chunk → List ℕ
 chunkBytes c = basicBytes (c .form) (format (c .header)) (c .id) ++ headerBytes (c .header) ++ extendedBytes (c .extended) ++ c .payload

@@ -1,16 +1,16 @@
 -- Bytes stored one run after the other, and the numbers that parts of bytes mean.
 use Prim.Native.Nat.{ℕ, zero, suc, _+_, _%_, _^_, _≤_, _<_}
-use mathlib.Core.Path.{_≡_, refl, ap, _∙_}
+use mathlib.Core.Path.{_≡_, refl, ap, subst, _∙_}
 use mathlib.Core.List.{List, [], _∷_, _++_, append-assoc}
 use native.Mathlib.Omega.{arith}
 use mathlib.Core.Bool.{Bool, true, false, cond}
 use lib.Dec.{leb}
-use native.Mathlib.Nat.{add-zero, add-suc, suc-add}
+use native.Mathlib.Nat.{add-assoc, add-zero, add-suc, suc-add}
 use lib.ListN.{length, take, drop, set, length-append, length-take, length-drop}
 use lib.Seq.{length-take-le, length-sets, sets, sets-eq, take-at, drop-append-add, drop-drop, getD-drop}
 use borrow.Author.Tests.{le-leb, lt-leb}
 use Rattle.fields.specs.Endian.{bigEndian, number, Bytes}
-use Rattle.fields.specs.Output.{over, stored}
+use Rattle.fields.specs.Output.{Adds, over, stored}
 use Rattle.fields.proofs.Endian.{number-fits, big-gather}
 
 -- a part of the output, written whole
@@ -33,6 +33,14 @@ length-stored out bs at = go (leb (at + length bs) (length out))
     go true = length-sets out at bs
     go false = refl
 
+pub stored-nil : (out : List ℕ) (at : ℕ) → stored out at [] ≡ out
+unfolding stored
+stored-nil out at = go (leb (at + 0) (length out))
+  where
+    go : (b : Bool) → cond b out out ≡ out
+    go true = refl
+    go false = refl
+
 sets-append : (l : List ℕ) (i : ℕ) (xs ys : List ℕ) → sets (sets l i xs) (i + length xs) ys ≡ sets l i (xs ++ ys)
 sets-append l i [] ys = rw add-zero
 sets-append l i (x ∷ xs) ys = rw (add-suc, ← suc-add) (sets-append (set l i x) (suc i) xs ys)
@@ -47,6 +55,17 @@ stored-append out xs ys at next e h =
     let both : at + length (xs ++ ys) ≤ length out = rw length-append (omega arith) in
     rw (le-leb (at + length xs) (length out) one, le-leb (next + length ys) (length (sets out at xs)) two, le-leb (at + length (xs ++ ys)) (length out) both, e)
     (sets-append out at xs ys)
+
+pub adds-same : {out xs ys : List ℕ} {at n : ℕ} {o : List ℕ} → xs ≡ ys → Adds out at xs n o → Adds out at ys n o
+adds-same {out} {xs} {ys} {at} {n} {o} e a = subst (λ (l : List ℕ). Adds out at l n o) e a
+
+-- a run added, and another straight after it
+pub adds-then : (out xs ys : List ℕ) {at n m : ℕ} {o o′ : List ℕ} → Adds out at xs n o → Adds o n ys m o′ → n + length ys ≤ length out
+    → Adds out at (xs ++ ys) m o′
+adds-then out xs ys {at} {n} a b h = record {
+  place = b .place ∙ rw (length-append, a .place) (add-assoc at (length xs) (length ys));
+  left = b .left ∙ rw (a .left) (stored-append out xs ys at n (a .place) h);
+}
 
 -- more bytes straight after those over the start of the output
 pub stored-over : (xs ys out : List ℕ) (n : ℕ) → length xs ≡ n → n + length ys ≤ length out → stored (over xs out) n ys ≡ over (xs ++ ys) out

@@ -1,2 +1,45 @@
 // How many bytes a packet takes, by arithmetic.
 ghost use mathlib.Core.Path.{_≡_};
+ghost use mathlib.Core.List.{[]};
+ghost use Prim.Native.Nat.{_≤_, _<_};
+ghost use lib.ListN.{length};
+ghost use Rattle.chunk_header.specs.Layout.{chunkBytes, extendedBytes};
+ghost use Rattle.serializer.specs.Packet.{chunk, chunksOf, extended, joined, pieces};
+use chunk_header::ChunkHeader;
+use chunk_header::ChunkHeaderFormat;
+use chunk_header::header_length;
+
+// A time field of this or more is sent as this, with an extended time.
+pub const MAX_INITIAL_TIMESTAMP: u32 = 16777215;
+
+// What the extended time takes.
+pub fn extended_length(timestamp_field: u32) -> usize
+    ensures { λ r. ⌜ r ≡ length (extendedBytes (extended «timestamp_field»)) ⌝ }
+{
+    if timestamp_field < MAX_INITIAL_TIMESTAMP {
+        return 0;
+    }
+    4
+}
+
+// What a chunk takes before its payload.
+fn chunk_length(format: ChunkHeaderFormat, header: ChunkHeader) -> usize
+    ensures { λ r. ⌜ r ≡ length (chunkBytes (chunk format header [])) ⌝ }
+{
+    1 + header_length(format) + extended_length(header.timestamp_field)
+}
+
+// What the chunks of a payload take.
+pub fn packet_bytes(
+    first: ChunkHeaderFormat,
+    later: ChunkHeaderFormat,
+    header: ChunkHeader,
+    payload: &[u8],
+    size: usize,
+) -> usize
+    requires { ⌜ (0 < length (now payload)) × (length (now payload) ≤ 16777215) × (0 < size) ⌝ }
+    ensures { λ r. ⌜ r ≡ length (joined (chunksOf first later header (pieces size (now (payload .entry))))) ⌝ }
+{
+    let more = (payload.len() - 1) / size;
+    chunk_length(first, header) + more * chunk_length(later, header) + payload.len()
+}

@@ -4,14 +4,18 @@ ghost use lib.ListN.{length};
 ghost use Rattle.serializer.specs.Answer.{answerOf};
 ghost use Rattle.serializer.specs.Message.{message};
 ghost use Rattle.serializer.specs.Serialize.{fresh, needed, outcomeOf, serialized, sizeChanged};
+
 mod format;
 mod length;
 mod write;
+
 use chunk_header::ChunkHeader;
 use time::RtmpTimestamp;
 
 const INITIAL_MAX_CHUNK_SIZE: u32 = 128;
+
 const MAX_MESSAGE_LENGTH: usize = 16777215;
+
 const LARGEST_CHUNK_SIZE: u32 = 2147483647;
 
 // Rows 0 to 4 are those of chunk streams 2 to 6.

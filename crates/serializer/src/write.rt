@@ -1,2 +1,154 @@
-// How a packet is written.
+// How a packet is written: chunk after chunk, each field at its place.
 ghost use mathlib.Core.Path.{_≡_};
+ghost use mathlib.Core.List.{[], _++_, map};
+ghost use Prim.Native.Nat.{_+_, _*_, _≤_, _<_, min};
+ghost use lib.ListN.{length, drop};
+ghost use Rattle.fields.specs.Endian.{bigEndian};
+ghost use Rattle.fields.specs.Output.{Adds, over, stored};
+ghost use Rattle.chunk_header.specs.Layout.{chunkBytes, headerBytes};
+ghost use Rattle.chunk_header.specs.Table.{fieldLength, headerLength, typeOf};
+ghost use Rattle.serializer.specs.Packet.{chunk, chunksOf, joined, maxField, messageHeader, pieces};
+use crate::format::FirstChunk;
+use crate::length::MAX_INITIAL_TIMESTAMP;
+use crate::length::extended_length;
+use chunk_header::ChunkHeader;
+use chunk_header::ChunkHeaderFormat;
+use chunk_header::HeaderField;
+use chunk_header::chunk_type;
+use chunk_header::field_length;
+use fields::put_bytes;
+use fields::put_number;
+use fields::swap_bytes;
+
+fn least(a: usize, b: usize) -> usize
+    ensures { λ r. ⌜ r ≡ min a b ⌝ }
+{
+    if a < b { a } else { b }
+}
+
+// The 24-bit field of a time.
+fn initial_timestamp(timestamp_field: u32) -> u32
+    ensures { λ r. ⌜ r ≡ min «timestamp_field» maxField ⌝ }
+{
+    if timestamp_field < MAX_INITIAL_TIMESTAMP {
+        return timestamp_field;
+    }
+    MAX_INITIAL_TIMESTAMP
+}
+
+// Adds a field, and answers the place after it.
+fn add_field(output: &mut [u8], at: usize, value: u32, width: usize) -> usize
+    requires { ⌜ at + width ≤ length (now output) ⌝ }
+    ensures { λ r. ⌜ Adds (now (output .entry)) at (bigEndian width value) r (now (output .exit)) ⌝ }
+{
+    put_number(value, width, output, at);
+    at + width
+}
+
+fn add_message_length_and_type_id(
+    output: &mut [u8],
+    at: usize,
+    format: ChunkHeaderFormat,
+    header: ChunkHeader,
+) -> usize
+    requires { ⌜ at + (fieldLength (typeOf format) 1 + fieldLength (typeOf format) 2) ≤ length (now output) ⌝ }
+    ensures { λ r. ⌜ Adds (now (output .entry)) at (bigEndian (fieldLength (typeOf format) 1) (header .«message_length») ++ bigEndian (fieldLength (typeOf format) 2) (header .«message_type_id»)) r (now (output .exit)) ⌝ }
+{
+    let length = field_length(format, HeaderField::MessageLength);
+    let type_id = field_length(format, HeaderField::MessageTypeId);
+    let next = add_field(output, at, header.message_length, length);
+    add_field(output, next, header.message_type_id as u32, type_id)
+}
+
+fn add_message_header(
+    output: &mut [u8],
+    at: usize,
+    format: ChunkHeaderFormat,
+    header: ChunkHeader,
+) -> usize
+    requires { ⌜ at + headerLength (typeOf format) ≤ length (now output) ⌝ }
+    ensures { λ r. ⌜ Adds (now (output .entry)) at (headerBytes (messageHeader format header)) r (now (output .exit)) ⌝ }
+{
+    let timestamp = field_length(format, HeaderField::Timestamp);
+    let stream_id = field_length(format, HeaderField::MessageStreamId);
+    let initial = initial_timestamp(header.timestamp_field);
+    let swapped = swap_bytes(header.message_stream_id);
+    let at1 = add_field(output, at, initial, timestamp);
+    let at2 = add_message_length_and_type_id(output, at1, format, header);
+    add_field(output, at2, swapped, stream_id)
+}
+
+fn first_byte(format: ChunkHeaderFormat, csid: u32) -> u32
+    requires { ⌜ csid < 64 ⌝ }
+    ensures { λ r. ⌜ r ≡ 64 * typeOf format + csid ⌝ }
+{
+    64 * chunk_type(format) as u32 + csid
+}
+
+// Adds what comes before a chunk's payload.
+fn add_header(output: &mut [u8], at: usize, format: ChunkHeaderFormat, header: ChunkHeader) -> usize
+    requires { ⌜ (header .«chunk_stream_id» < 64) × (at + length (chunkBytes (chunk format header [])) ≤ length (now output)) ⌝ }
+    ensures { λ r. ⌜ Adds (now (output .entry)) at (chunkBytes (chunk format header [])) r (now (output .exit)) ⌝ }
+{
+    let field = header.timestamp_field;
+    let extended = extended_length(field);
+    let basic = first_byte(format, header.chunk_stream_id);
+    let at1 = add_field(output, at, basic, 1);
+    let at2 = add_message_header(output, at1, format, header);
+    add_field(output, at2, field, extended)
+}
+
+// Adds a chunk, and answers the place after it.
+fn add_chunk(
+    output: &mut [u8],
+    at: usize,
+    format: ChunkHeaderFormat,
+    header: ChunkHeader,
+    payload: &[u8],
+) -> usize
+    requires { ⌜ (header .«chunk_stream_id» < 64) × (at + length (chunkBytes (chunk format header (now payload))) ≤ length (now output)) ⌝ }
+    ensures { λ r. ⌜ Adds (now (output .entry)) at (chunkBytes (chunk format header (now (payload .entry)))) r (now (output .exit)) ⌝ }
+{
+    let next = add_header(output, at, format, header);
+    put_bytes(payload, output, next);
+    next + payload.len()
+}
+
+// Adds the chunks that follow the first, from a place in the payload on.
+fn add_later_chunks(
+    output: &mut [u8],
+    start: usize,
+    format: ChunkHeaderFormat,
+    header: ChunkHeader,
+    payload: &[u8],
+    size: usize,
+)
+    requires { ⌜ (header .«chunk_stream_id» < 64) × (0 < size) × (start + length (joined (map (chunk format header) (pieces size (drop size (now payload))))) ≤ length (now output)) ⌝ }
+    ensures { λ _. ⌜ now (output .exit) ≡ stored (now (output .entry)) start (joined (map (chunk format header) (pieces size (drop size (now (payload .entry)))))) ⌝ }
+{
+    let mut at = start;
+    let mut from = size;
+    while from < payload.len() {
+        let n = least(size, payload.len() - from);
+        at = add_chunk(output, at, format, header, &payload[from..from + n]);
+        from += n;
+    }
+}
+
+// Writes the packet of a message at the start of the output.
+pub fn write_packet(
+    first: FirstChunk,
+    later: ChunkHeaderFormat,
+    payload: &[u8],
+    size: usize,
+    output: &mut [u8],
+)
+    requires { ⌜ (first .header .«chunk_stream_id» < 64) × (0 < size) × (0 < length (now payload)) × (length (joined (chunksOf (first .format) later (first .header) (pieces size (now payload)))) ≤ length (now output)) ⌝ }
+    ensures { λ _. ⌜ now (output .exit) ≡ over (joined (chunksOf (first .format) later (first .header) (pieces size (now (payload .entry))))) (now (output .entry)) ⌝ }
+{
+    let format = first.format;
+    let header = first.header;
+    let n = least(size, payload.len());
+    let next = add_chunk(output, 0, format, header, &payload[0..n]);
+    add_later_chunks(output, next, later, header, payload, size);
+}

@@ -1,0 +1,74 @@
+-- The chunks of a payload after the first, taken one by one.
+use Prim.Native.Nat.{ℕ, _+_, _-_, _<_, min}
+use mathlib.Core.Path.{_≡_, refl, sym, ap, _∙_}
+use mathlib.Core.Bool.{Bool, true, false}
+use mathlib.Core.List.{List, [], _++_, map}
+use native.Mathlib.Nat.{add-sub-cancel-left}
+use native.Mathlib.Omega.{arith}
+use lib.Dec.{ltb}
+use lib.ListN.{length, take, drop, length-drop, drop-of-length-le}
+use lib.Seq.{take-all, drop-drop}
+use borrow.Author.Tests.{ltb-true, ltb-false}
+use Rattle.chunk_header.specs.declared.ChunkHeader.{ChunkHeader}
+use Rattle.chunk_header.specs.declared.ChunkHeaderFormat.{ChunkHeaderFormat}
+use Rattle.chunk_header.specs.Layout.{chunkBytes}
+use Rattle.serializer.specs.Packet.{chunk, chunksOf, joined, pieces}
+use Rattle.serializer.proofs.Pieces.{pieces-step, pieces-none}
+
+abbrev pub later : ChunkHeaderFormat → ChunkHeader → ℕ → List ℕ → List ℕ
+later f h size payload = joined (map (chunk f h) (pieces size payload))
+
+pub later-step : (f : ChunkHeaderFormat) (h : ChunkHeader) (size : ℕ) (payload : List ℕ) → 0 < size → 0 < length payload
+    → later f h size payload ≡ chunkBytes (chunk f h (take size payload)) ++ later f h size (drop size payload)
+later-step f h size payload p q = rw (pieces-step size payload p q)
+
+pub later-none : (f : ChunkHeaderFormat) (h : ChunkHeader) (size : ℕ) → 0 < size → later f h size [] ≡ []
+later-none f h size p = rw (pieces-none size p)
+
+-- a piece is cut at the payload's end
+pub take-least : (size : ℕ) (xs : List ℕ) → take (min size (length xs)) xs ≡ take size xs
+take-least size xs = go (ltb size (length xs)) refl
+  where
+    go : (b : Bool) → ltb size (length xs) ≡ b → take (min size (length xs)) xs ≡ take size xs
+    go true e =
+        let less = ltb-true size (length xs) e in
+        let same : min size (length xs) ≡ size = omega arith in
+        rw same
+    go false e =
+        let more = ltb-false size (length xs) e in
+        let same : min size (length xs) ≡ length xs = omega arith in
+        rw (same, take-all (length xs) xs (omega arith), take-all size xs more)
+
+pub drop-least : (size : ℕ) (xs : List ℕ) → drop (min size (length xs)) xs ≡ drop size xs
+drop-least size xs = go (ltb size (length xs)) refl
+  where
+    go : (b : Bool) → ltb size (length xs) ≡ b → drop (min size (length xs)) xs ≡ drop size xs
+    go true e =
+        let less = ltb-true size (length xs) e in
+        let same : min size (length xs) ≡ size = omega arith in
+        rw same
+    go false e =
+        let more = ltb-false size (length xs) e in
+        let same : min size (length xs) ≡ length xs = omega arith in
+        rw (same, drop-of-length-le xs {i = length xs} (omega arith), drop-of-length-le xs {i = size} more)
+
+-- one turn: a piece from a place on, and what is left after it
+pub later-piece : (f : ChunkHeaderFormat) (h : ChunkHeader) (size : ℕ) (payload : List ℕ) (from n : ℕ) → 0 < size → from < length payload
+    → n ≡ min size (length payload - from)
+    → later f h size (drop from payload) ≡ chunkBytes (chunk f h (take (from + n - from) (drop from payload))) ++ later f h size (drop (from + n) payload)
+later-piece f h size payload from n p q e =
+    let xs = drop from payload in
+    let some : 0 < length xs = rw length-drop (omega arith) in
+    let k : n ≡ min size (length xs) = rw length-drop e in
+    let piece : take n xs ≡ take size xs = ap (λ (m : ℕ). take m xs) k ∙ take-least size xs in
+    let rest : drop (from + n) payload ≡ drop size xs = sym (drop-drop n from payload) ∙ ap (λ (m : ℕ). drop m xs) k ∙ drop-least size xs in
+    later-step f h size xs p some ∙ rw (add-sub-cancel-left from n, piece, rest)
+
+-- a packet is its first chunk and the later ones
+pub packet-parts : (f g : ChunkHeaderFormat) (h : ChunkHeader) (size : ℕ) (payload : List ℕ) (n : ℕ) → 0 < size → 0 < length payload
+    → n ≡ min size (length payload)
+    → joined (chunksOf f g h (pieces size payload)) ≡ chunkBytes (chunk f h (take (n - 0) payload)) ++ later g h size (drop size payload)
+packet-parts f g h size payload n p q e =
+    let whole : n - 0 ≡ n = omega arith in
+    let piece : take (n - 0) payload ≡ take size payload = ap (λ (m : ℕ). take m payload) (whole ∙ e) ∙ take-least size payload in
+    rw (piece, pieces-step size payload p q)

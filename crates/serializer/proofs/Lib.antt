@@ -1,0 +1,4 @@
+pub mod Chunk
+pub mod Later
+pub mod PacketLength
+pub mod Pieces

@@ -1,0 +1,43 @@
+-- What comes before the payload, and the payload straight after it.
+use Prim.Native.Nat.{_+_}
+use mathlib.Core.Path.{_≡_, refl, sym}
+use mathlib.Core.List.{[], _++_}
+use native.Mathlib.Omega.{arith}
+use lib.ListN.{length, length-append}
+use Rattle.chunk_header.specs.Layout.{chunkBytes}
+use Rattle.fields.proofs.Lists.{adds-same, adds-then}
+use Rattle.serializer.specs.Packet.{chunk}
+use Rattle.serializer.proofs.Chunk.{chunk-split}
+use Rattle.serializer.proofs.PacketLength.{length-chunk}
+use borrow.Author.Needs.{needs}
+use Rattle.serializer.proofs.write.add_chunk.Statement.{statement}
+use Rattle.serializer.proofs.write.add_chunk.Tie as tie
+
+add-header-requires : tie.Need-add-header-requires
+add-header-requires c κs =
+    let a = c .before .before .before .args in
+    (c .before .before .before .pre .0, omega (arith, c .before .before .before .pre .1, length-chunk (a .format) (a .header) (a .payload .now)))
+
+put-bytes-requires : tie.Need-put-bytes-requires
+put-bytes-requires c κs = search needs
+
+add-result : tie.Need-add-result
+add-result c =
+    let a = c .before .before .before .before .before .before .before .before .before .before .args in
+    omega (arith, c .before .before .before .before .before .before .add-header .ensures .place, c .before .before .before .before .before .before .before .before .before .before .pre .1, length-chunk (a .format) (a .header) (a .payload .now))
+
+same-length : tie.Need-same-length
+same-length c = search needs
+
+returns : tie.Need-returns
+returns c =
+    let a = c .before .before .before .before .before .before .before .before .before .before .args in
+    let s = c .before .before .before .before .before .before in
+    let head = chunkBytes (chunk (a .format) (a .header) []) in
+    adds-same (sym (chunk-split (a .format) (a .header) (a .payload .now)))
+    (adds-then (a .output .now) head (a .payload .now) (s .add-header .ensures) (record { place = refl; left = c .before .before .put-bytes .ensures })
+    (omega (arith, s .add-header .ensures .place, c .before .before .before .before .before .before .before .before .before .before .pre .1, length-chunk (a .format) (a .header) (a .payload .now))))
+
+pub add-chunk-spec : {M : Type 1} → statement M
+add-chunk-spec =
+    tie.close (tie.spec add-header-requires put-bytes-requires add-result same-length returns)
