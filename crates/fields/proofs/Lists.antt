@@ -1,12 +1,12 @@
 -- Bytes stored one run after the other, and the numbers that parts of bytes mean.
 use Prim.Native.Nat.{ℕ, zero, suc, _+_, _%_, _^_, _≤_, _<_}
 use mathlib.Core.Path.{_≡_, refl, ap, subst, _∙_}
-use mathlib.Core.List.{List, [], _∷_, _++_, append-assoc}
+use mathlib.Core.List.{List, [], _∷_, _++_, append-assoc, append-nil}
 use native.Mathlib.Omega.{arith}
 use mathlib.Core.Bool.{Bool, true, false, cond}
 use lib.Dec.{leb}
 use native.Mathlib.Nat.{add-assoc, add-zero, add-suc, suc-add}
-use lib.ListN.{length, take, drop, set, length-append, length-take, length-drop}
+use lib.ListN.{length, take, drop, set, length-append, length-take, length-drop, drop-of-length-le}
 use lib.Seq.{length-take-le, length-sets, sets, sets-eq, take-at, drop-append-add, drop-drop, getD-drop}
 use borrow.Author.Tests.{le-leb, lt-leb}
 use Rattle.fields.specs.Endian.{bigEndian, number, Bytes}
@@ -75,6 +75,11 @@ stored-over xs ys out n e h =
     let fits : n + length ys ≤ length (over xs out) = rw whole h in
     let after : drop (n + length ys) (xs ++ drop (length xs) out) ≡ drop (n + length ys) out = rw (← e, drop-append-add, drop-drop) in
     rw (le-leb (n + length ys) (length (over xs out)) fits, sets-eq ys (over xs out) n fits, take-at xs (drop (length xs) out) n e, after, length-append, e) refl
+
+-- an output that is written whole
+pub stored-whole : (out bs : List ℕ) → length bs ≡ length out → stored out 0 bs ≡ bs
+stored-whole out bs e =
+    stored-over [] bs out 0 refl (omega arith) ∙ rw (e, drop-of-length-le out {i = length out} (omega arith)) (append-nil bs)
 
 -- the same, as a step of a run of stores
 pub stored-next : (xs ys out : List ℕ) {o o′ : List ℕ} (n : ℕ) → o′ ≡ stored o n ys → o ≡ over xs out → length xs ≡ n → n + length ys ≤ length out

@@ -2,3 +2,5 @@ pub mod Chunk
 pub mod Later
 pub mod PacketLength
 pub mod Pieces
+pub mod Stream
+pub mod Sent

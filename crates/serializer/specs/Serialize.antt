@@ -10,12 +10,14 @@ use Rattle.fields.specs.Output.{over}
 use Rattle.chunk_header.specs.declared.ChunkHeader.{ChunkHeader}
 use Rattle.chunk_header.specs.Header.{nothing}
 use Rattle.serializer.specs.declared.ChunkSerializer.{ChunkSerializer}
+use Rattle.serializer.specs.declared.Packet.{Packet}
 use Rattle.serializer.specs.declared.Serialized.{Serialized}
 use Rattle.serializer.specs.declared.format.Message.{Message}
+use Rattle.serializer.specs.declared.plan.Plan.{Plan}
 use Rattle.serializer.specs.Answer.{Answer, wrote, refused, answerOf}
-use Rattle.serializer.specs.Header.{header}
+use Rattle.serializer.specs.Header.{header, firstChunk}
 use Rattle.serializer.specs.Message.{message, chunkStream}
-use Rattle.serializer.specs.Packet.{packet}
+use Rattle.serializer.specs.Packet.{laterFormat, packet}
 
 -- the answer, the encoder and the output after a call
 pub record Outcome : Type 0 where
@@ -25,6 +27,9 @@ pub record Outcome : Type 0 where
 
 abbrev pub outcomeOf : Serialized → List ℕ → Outcome
 outcomeOf r output = record { answer = answerOf (r .packet); serializer = r .serializer; output = output }
+
+abbrev pub unsent : ChunkSerializer → Packet → Serialized
+unsent s packet = record { serializer = s; packet = packet }
 
 -- the longest message, and the largest chunk size
 abbrev pub maxLength : ℕ
@@ -36,6 +41,10 @@ maxSize = 2147483647
 -- the chunk size in force, which no call makes 0
 abbrev pub sizeOf : ChunkSerializer → ℕ
 sizeOf s = max 1 (s .«max_chunk_size»)
+
+-- what is decided of a packet before its first byte
+abbrev pub planned : Message → ChunkHeader → ℕ → Plan
+planned m previous size = record { first = firstChunk m previous; later = laterFormat (m .«force_uncompressed»); size = max 1 size }
 
 -- the row of a message's chunk stream: 2 to 6 have rows 0 to 4
 abbrev pub rowOf : Message → ℕ
@@ -59,6 +68,10 @@ refuse s output n = record { answer = refused n; serializer = s; output = output
 abbrev pub accept : ChunkSerializer → Message → List ℕ → ℕ → List ℕ → Outcome
 accept s m payload size output =
     record { answer = wrote (length (packetOf s m payload)); serializer = remember s m size; output = over (packetOf s m payload) output }
+
+-- a packet sent, or 5
+unfoldable pub sent : ChunkSerializer → Message → List ℕ → ℕ → List ℕ → Outcome
+sent s m payload size output = first (refuse s output 5 when ltb (length output) (length (packetOf s m payload)) ∷ []) (accept s m payload size output)
 
 unfoldable pub serialized : ChunkSerializer → Message → List ℕ → List ℕ → Outcome
 serialized s m payload output =

@@ -2,6 +2,8 @@
 ghost use mathlib.Core.Path.{_≡_};
 ghost use Rattle.serializer.specs.Header.{firstChunk, timeField};
 ghost use Rattle.serializer.specs.Header.{delta as Header·delta, format as Header·format};
+ghost use Rattle.serializer.specs.Packet.{laterFormat};
+ghost use Prim.Native.Nat.{_-_};
 ghost use Rattle.serializer.specs.Message.{chunkStream};
 use chunk_header::ChunkHeader;
 use chunk_header::ChunkHeaderFormat;
@@ -23,7 +25,7 @@ pub struct FirstChunk {
     pub header: ChunkHeader,
 }
 
-pub fn get_csid_for_message_type(type_id: u8) -> u32
+fn get_csid_for_message_type(type_id: u8) -> u32
     ensures { λ r. ⌜ r ≡ chunkStream «type_id» ⌝ }
 {
     if type_id < 1 {
@@ -45,6 +47,23 @@ pub fn get_csid_for_message_type(type_id: u8) -> u32
         return 5;
     }
     6
+}
+
+// Rows 0 to 4 are those of chunk streams 2 to 6.
+pub fn row_of(type_id: u8) -> usize
+    ensures { λ r. ⌜ r ≡ chunkStream «type_id» - 2 ⌝ }
+{
+    (get_csid_for_message_type(type_id) - 2) as usize
+}
+
+// Later chunks are type 3; when forced, they are all type 0.
+pub fn later_format(force_uncompressed: bool) -> ChunkHeaderFormat
+    ensures { λ r. ⌜ r ≡ laterFormat «force_uncompressed» ⌝ }
+{
+    if force_uncompressed {
+        return ChunkHeaderFormat::Full;
+    }
+    ChunkHeaderFormat::Empty
 }
 
 // The five rules, in their order.

@@ -70,14 +70,13 @@ loop-again c =
     let s = c .before .before .add-chunk in
     let rest = later (a .format) (a .header) (a .size) (drop (l .loop .from + n) (a .payload .now)) in
     let bytes = chunkBytes (chunk (a .format) (a .header) (take (l .loop .from + n - l .loop .from) (drop (l .loop .from) (a .payload .now)))) in
-    let fits : s .result + length rest ≤ length (l .loop .output) = omega (arith, s .ensures .place, whole, l .loop .inv .0) in
-    (
+    let fits : s .result + length rest ≤ length (l .loop .output) = omega (arith, s .ensures .place, whole, l .loop .inv .0) in (
       omega (arith, fits, s .kept .0),
       s .kept .0 ∙ l .loop .inv .1,
       ap (λ (o : List ℕ). stored o (s .result) rest) (s .ensures .left)
-      ∙ stored-append (l .loop .output) bytes rest (l .loop .at) (s .result) (s .ensures .place) fits
-      ∙ ap (stored (l .loop .output) (l .loop .at)) (sym piece)
-      ∙ l .loop .inv .2,
+          ∙ stored-append (l .loop .output) bytes rest (l .loop .at) (s .result) (s .ensures .place) fits
+          ∙ ap (stored (l .loop .output) (l .loop .at)) (sym piece)
+          ∙ l .loop .inv .2,
       l .loop .inv .3,
       l .loop .inv .4,
     )

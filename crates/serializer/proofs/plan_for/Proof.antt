@@ -1,0 +1,36 @@
+-- The row is one of the five.
+use Prim.Native.Nat.{ℕ, _<_}
+use mathlib.Core.Path.{ap, _∙_}
+use native.Mathlib.Omega.{arith}
+use lib.ListN.{getD}
+use Rattle.chunk_header.specs.Header.{nothing}
+use Rattle.serializer.specs.Serialize.{planned}
+use Rattle.serializer.proofs.Stream.{stream-range}
+use borrow.Author.Needs.{needs}
+use Rattle.serializer.proofs.plan_for.Statement.{statement}
+use Rattle.serializer.proofs.plan_for.Tie as tie
+
+row : (c : tie.After-row-of) → c .row-of .result < 5
+row c = omega (arith, c .row-of .ensures, stream-range (c .before .before .args .message .«type_id»))
+
+row-of-requires : tie.Need-row-of-requires
+row-of-requires c κs = search needs
+
+mul-previous : tie.Need-mul-previous
+mul-previous c = omega (arith, row c)
+
+array-copy-out-previous : tie.Need-array-copy-out-previous
+array-copy-out-previous c = row c
+
+plan-packet-requires : tie.Need-plan-packet-requires
+plan-packet-requires c κs = search needs
+
+returns : tie.Need-returns
+returns c =
+    let a = c .before .before .before .before .args in
+    c .plan-packet .ensures ∙ ap (λ (n : ℕ). planned (a .message) (getD (a .serializer .«previous_headers») n nothing) (a .serializer .«max_chunk_size»)) (c .before .before .row-of .ensures)
+
+pub plan-for-spec : {M : Type 1} → statement M
+plan-for-spec =
+    tie.close
+    (tie.spec row-of-requires mul-previous array-copy-out-previous plan-packet-requires returns)
