@@ -1,2 +1,4 @@
+pub mod Encoded
 pub mod Sample
 pub mod Table
+pub mod Worked

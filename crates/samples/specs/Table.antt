@@ -1,11 +1,17 @@
--- The samples of document 01 that are marked M, in its order.
+-- The samples of document 01 that are marked M, in its order, and Adobe's worked examples.
 use Prim.Native.Nat.{ℕ}
+use mathlib.Core.Bool.{true, false}
 use mathlib.Core.List.{List, [], _∷_}
+use Rattle.chunk_header.specs.declared.Csid.{Csid}
+use Rattle.chunk_header.specs.declared.Csid.the-variants.{Id, Incomplete}
+use Rattle.chunk_header.specs.Basic.{csid}
 use Rattle.user_control.specs.declared.UserControlEvent.the-variants.{SetBufferLength}
 use Rattle.user_control.specs.Answer.{Answer, event, wrote, refused}
 use Rattle.user_control.specs.Body.{body}
 use Rattle.user_control.specs.Reading.{reading}
+use Rattle.samples.specs.Encoded.{Call, send, size, encoded}
 use Rattle.samples.specs.Sample.{Sample, _is_}
+use Rattle.samples.specs.Worked.{audio, video, sizes, firstBytes}
 
 -- the values of an answer, in their order
 abbrev values : Answer → List ℕ
@@ -13,11 +19,63 @@ values (event code numbers) = code ∷ numbers
 values (wrote count) = count ∷ []
 values (refused number) = number ∷ []
 
--- M11: buffer length 500 on stream 1, written and read
+abbrev id : Csid → List ℕ
+id (Id n) = n ∷ []
+id Incomplete = []
+
+-- M1 and what follows it: type 9, stream 1
+abbrev video9 : ℕ → List ℕ → Call
+video9 time payload = send 9 1 time payload false false
+
+abbrev m1 : Call
+m1 = video9 0 (0x01 ∷ 0x02 ∷ 0x03 ∷ [])
+
+abbrev m2 : Call
+m2 = video9 40 (0x01 ∷ 0x02 ∷ 0x03 ∷ [])
+
+abbrev m3 : Call
+m3 = video9 80 (0x01 ∷ 0x02 ∷ 0x03 ∷ [])
+
+abbrev m4 : Call
+m4 = video9 80 (0x01 ∷ 0x02 ∷ 0x03 ∷ 0x04 ∷ [])
+
+-- M11: buffer length 500 on stream 1
 abbrev m11 : List ℕ
 m11 = 0x00 ∷ 0x03 ∷ 0x00 ∷ 0x00 ∷ 0x00 ∷ 0x01 ∷ 0x00 ∷ 0x00 ∷ 0x01 ∷ 0xF4 ∷ []
 
 abbrev pub table : List Sample
-table = body (SetBufferLength 1 500) is m11
+table =
+    -- M1
+    encoded m1 [] is (0x04 ∷ 0x00 ∷ 0x00 ∷ 0x00 ∷ 0x00 ∷ 0x00 ∷ 0x03 ∷ 0x09 ∷ 0x01 ∷ 0x00 ∷ 0x00 ∷ 0x00 ∷ 0x01 ∷ 0x02 ∷ 0x03 ∷ [])
+    -- M2
+    ∷ encoded m1 (m2 ∷ []) is (0x84 ∷ 0x00 ∷ 0x00 ∷ 0x28 ∷ 0x01 ∷ 0x02 ∷ 0x03 ∷ [])
+    -- M3
+    ∷ encoded m1 (m2 ∷ m3 ∷ []) is (0xC4 ∷ 0x01 ∷ 0x02 ∷ 0x03 ∷ [])
+    -- M4
+    ∷ encoded m1 (m2 ∷ m3 ∷ m4 ∷ []) is (0x44 ∷ 0x00 ∷ 0x00 ∷ 0x00 ∷ 0x00 ∷ 0x00 ∷ 0x04 ∷ 0x09 ∷ 0x01 ∷ 0x02 ∷ 0x03 ∷ 0x04 ∷ [])
+    -- M5: M1 droppable
+    ∷ encoded (send 9 1 0 (0x01 ∷ 0x02 ∷ 0x03 ∷ []) false true) (m2 ∷ []) is (0x04 ∷ 0x00 ∷ 0x00 ∷ 0x28 ∷ 0x00 ∷ 0x00 ∷ 0x03 ∷ 0x09 ∷ 0x01 ∷ 0x00 ∷ 0x00 ∷ 0x00 ∷ 0x01 ∷ 0x02 ∷ 0x03 ∷ [])
+    -- M6
+    ∷ encoded (send 8 1 16777215 (0xAA ∷ []) false false) [] is (0x05 ∷ 0xFF ∷ 0xFF ∷ 0xFF ∷ 0x00 ∷ 0x00 ∷ 0x01 ∷ 0x08 ∷ 0x01 ∷ 0x00 ∷ 0x00 ∷ 0x00 ∷ 0x00 ∷ 0xFF ∷ 0xFF ∷ 0xFF ∷ 0xAA ∷ [])
+    -- M7
+    ∷ encoded (send 8 1 16777214 (0xAA ∷ []) false false) [] is (0x05 ∷ 0xFF ∷ 0xFF ∷ 0xFE ∷ 0x00 ∷ 0x00 ∷ 0x01 ∷ 0x08 ∷ 0x01 ∷ 0x00 ∷ 0x00 ∷ 0x00 ∷ 0xAA ∷ [])
+    -- M8: the time goes back
+    ∷ encoded (video9 20 (0xAA ∷ [])) (video9 10 (0xAA ∷ []) ∷ []) is (0x84 ∷ 0xFF ∷ 0xFF ∷ 0xFF ∷ 0xFF ∷ 0xFF ∷ 0xFF ∷ 0xF6 ∷ 0xAA ∷ [])
+    -- M9
+    ∷ encoded (size 4096 0) [] is (0x02 ∷ 0x00 ∷ 0x00 ∷ 0x00 ∷ 0x00 ∷ 0x00 ∷ 0x04 ∷ 0x01 ∷ 0x00 ∷ 0x00 ∷ 0x00 ∷ 0x00 ∷ 0x00 ∷ 0x00 ∷ 0x10 ∷ 0x00 ∷ [])
+    -- M10, and two ids that tell the second byte from the third
+    ∷ id (csid (0x00 ∷ 0x00 ∷ [])) is (64 ∷ [])
+    ∷ id (csid (0x00 ∷ 0xFF ∷ [])) is (319 ∷ [])
+    ∷ id (csid (0x01 ∷ 0x00 ∷ 0x00 ∷ [])) is (64 ∷ [])
+    ∷ id (csid (0x01 ∷ 0xFF ∷ 0xFF ∷ [])) is (65599 ∷ [])
+    ∷ id (csid (0x01 ∷ 0x00 ∷ 0x01 ∷ [])) is (320 ∷ [])
+    ∷ id (csid (0x01 ∷ 0x01 ∷ 0x00 ∷ [])) is (65 ∷ [])
+    -- M11, written and read
+    ∷ body (SetBufferLength 1 500) is m11
     ∷ values (reading m11) is (3 ∷ 1 ∷ 500 ∷ [])
+    -- Adobe 5.3.2.1 and 5.3.2.2
+    ∷ sizes audio is (44 ∷ 36 ∷ 33 ∷ 33 ∷ [])
+    ∷ firstBytes 12 audio is (0x03 ∷ 0x00 ∷ 0x03 ∷ 0xE8 ∷ 0x00 ∷ 0x00 ∷ 0x20 ∷ 0x08 ∷ 0x39 ∷ 0x30 ∷ 0x00 ∷ 0x00 ∷ [])
+    ∷ sizes video is (140 ∷ 129 ∷ 52 ∷ [])
+    ∷ firstBytes 12 video is (0x04 ∷ 0x00 ∷ 0x03 ∷ 0xE8 ∷ 0x00 ∷ 0x01 ∷ 0x33 ∷ 0x09 ∷ 0x3A ∷ 0x30 ∷ 0x00 ∷ 0x00 ∷ [])
     ∷ []
