@@ -75,7 +75,7 @@ header-most TimeDeltaWithoutMessageStreamId = lit≤ tt
 header-most TimeDeltaOnly = lit≤ tt
 header-most Empty = lit≤ tt
 
-extended-most : (time : ℕ) → length (extendedBytes (extended time)) ≤ 4
+pub extended-most : (time : ℕ) → length (extendedBytes (extended time)) ≤ 4
 unfolding bigEndian
 extended-most time = go (ltb time maxField)
   where

@@ -1,5 +1,6 @@
 pub mod Chunk
 pub mod Later
+pub mod Laws
 pub mod PacketLength
 pub mod Pieces
 pub mod Stream

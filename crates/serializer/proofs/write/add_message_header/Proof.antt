@@ -16,7 +16,7 @@ use Rattle.serializer.proofs.write.add_message_header.Statement.{statem
 use Rattle.serializer.proofs.write.add_message_header.Tie as tie
 
 length-both : (m n x y : ℕ) → length (bigEndian m x ++ bigEndian n y) ≡ m + n
-length-both m n x y = rw (length-append, length-big, length-big n)
+length-both m n x y = rw (length-append, length-big m x, length-big n y)
 
 field-length-requires : tie.Need-field-length-requires
 field-length-requires c κs = search needs

@@ -1,0 +1,1 @@
+"""The families of calls that scripts are made of."""

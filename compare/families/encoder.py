@@ -1,0 +1,121 @@
+"""Runs of an encoder: mixes of forced and droppable messages, sizes, and times that go back."""
+from .common import BAD_SIZES, FULL, GOOD_SIZES, HALF, MOST_OUTPUT, ROUND, TIMES, Driver, hexed, often, random_bytes
+
+# All five chunk streams are among them, each with more than one type but 4 and 5.
+KINDS = [1, 2, 3, 4, 5, 6, 18, 19, 9, 8, 0, 7, 10, 15, 17, 20, 22, 255]
+STREAMS = [0, 1, 2, 0x01020304, 0xFFFFFFFF]
+STEPS = [0, 1, 20, 40, FULL - 1, FULL, FULL + 1, HALF, -1, -10, -FULL]
+
+
+def make(r, writer, calls):
+    scout = Scout(writer.driver_path)
+    while writer.calls < calls:
+        run(r, writer, scout)
+        writer.end_of_run()
+    scout.driver.end()
+
+
+def run(r, writer, scout):
+    talker = Talker(r)
+    writer.call("enc new")
+    scout.start()
+    for _ in range(r.choice([2, 3, 5, 10, 30])):
+        if often(r, 5):
+            writer.call("enc size %d %d %d" % (r.choice(BAD_SIZES), r.choice(TIMES), r.choice([0, 16, 100])))
+        elif often(r, 4):
+            writer.call(with_output(talker.message(length=0), r.choice([0, 1, 100])))
+        else:
+            aimed_call(r, writer, scout, talker.size_change() if often(r, 10) else talker.message())
+
+
+def aimed_call(r, writer, scout, call):
+    """With output that is plenty, exactly enough, or short, most often by one byte."""
+    need = scout.need(call)
+    if need is None:
+        writer.call(with_output(call, MOST_OUTPUT))
+        return
+    if often(r, 15):
+        writer.call(with_output(call, r.choice([need - 1, need - 1, r.randrange(need)])))
+        if often(r, 30):
+            scout.forget_last()
+            return
+    writer.call(with_output(call, r.choice([need, need, min(need + 1, MOST_OUTPUT), MOST_OUTPUT])))
+
+
+def with_output(call, out):
+    """A call is held as what comes before OUT and what comes after it."""
+    before, after = call
+    return "%s %d%s" % (before, out, after)
+
+
+class Talker:
+    """Chooses messages as a sender might: a few types, streams, lengths and steps, often repeated."""
+
+    def __init__(self, r):
+        self.r = r
+        self.kinds = r.sample(KINDS + [r.randrange(256)], r.randint(1, 4))
+        self.streams = r.sample(STREAMS + [r.randrange(ROUND)], r.randint(1, 2))
+        self.time = r.choice(TIMES + [r.randrange(ROUND)])
+        # After a type 0 the step that gives type 3 is the time itself.
+        self.step = r.choice([self.time, 0, 20, 40])
+        self.length, self.size = 1, 128
+        self.forced, self.droppable = r.choice([0, 0, 10, 50]), r.choice([0, 0, 20, 50])
+
+    def next_time(self):
+        """By the same step as before, else by one of another kind; going back is among them."""
+        now, r = self.time, self.r
+        if often(r, 45):
+            self.step = r.choice(STEPS + [now, r.randrange(ROUND)])
+        self.time = r.choice(TIMES) if often(r, 4) else (now + self.step) % ROUND
+        return now
+
+    def next_length(self):
+        """As before, else around a multiple of the chunk size."""
+        r = self.r
+        if often(r, 50):
+            return self.length
+        around = r.choice([1, 1, 2, 3]) * self.size + r.choice([-1, 0, 1])
+        limit = 131000 if often(r, 1) else 2500 if often(r, 20) else 400
+        self.length = max(1, min(limit, r.choice([around, around, r.randint(1, 12)])))
+        return self.length
+
+    def message(self, length=None):
+        r = self.r
+        length = self.next_length() if length is None else length
+        head = (r.choice(self.kinds), r.choice(self.streams), self.next_time(), often(r, self.forced), often(r, self.droppable))
+        return "enc msg %d %d %d %d %d" % head, " " + hexed(random_bytes(r, length))
+
+    def size_change(self):
+        self.size = self.r.choice(GOOD_SIZES + [self.r.randint(1, 300)])
+        return "enc size %d %d" % (self.size, self.next_time()), ""
+
+
+class Scout:
+    """A second encoder that goes ahead and tells what a call writes."""
+
+    def __init__(self, driver_path):
+        self.driver = Driver(driver_path)
+        self.taken = []
+
+    def start(self):
+        self.taken = []
+        self.driver.ask("enc new")
+
+    def packet(self, call):
+        """What the call writes; None where that is more than any output."""
+        answer = self.driver.ask(with_output(call, MOST_OUTPUT))
+        if answer[0] != "wrote":
+            return None
+        self.taken.append(call)
+        return bytes.fromhex(answer[2])
+
+    def need(self, call):
+        packet = self.packet(call)
+        return None if packet is None else len(packet)
+
+    def forget_last(self):
+        """The call was not made after all: go back to before it."""
+        calls = self.taken[:-1]
+        self.start()
+        for call in calls:
+            self.packet(call)
