@@ -2,8 +2,9 @@
 use Prim.Native.Nat.{ℕ, _+_}
 use mathlib.Core.Bool.{cond}
 use mathlib.Core.List.{List, [], _∷_}
-use lib.Dec.{leb}
+use lib.Dec.{ltb, leb}
 use lib.ListN.{getD}
+use Rattle.fields.specs.Cases.{_when_, first}
 use Rattle.chunk_header.specs.declared.ChunkHeaderFormat.{ChunkHeaderFormat}
 use Rattle.chunk_header.specs.declared.ChunkHeaderFormat.the-variants.{Full, TimeDeltaWithoutMessageStreamId, TimeDeltaOnly, Empty}
 use Rattle.chunk_header.specs.declared.HeaderField.{HeaderField}
@@ -15,6 +16,10 @@ typeOf Full = 0
 typeOf TimeDeltaWithoutMessageStreamId = 1
 typeOf TimeDeltaOnly = 2
 typeOf Empty = 3
+
+-- "the top two bits are the type"
+unfoldable pub formatOf : ℕ → ChunkHeaderFormat
+formatOf byte = first (Full when ltb byte 64 ∷ TimeDeltaWithoutMessageStreamId when ltb byte 128 ∷ TimeDeltaOnly when ltb byte 192 ∷ []) Empty
 
 -- the fields in their order
 abbrev pub indexOf : HeaderField → ℕ

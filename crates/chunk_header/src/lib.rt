@@ -1,9 +1,8 @@
 // What a chunk's header is made of (chunk_io/chunk_header.rs of rml_rtmp).
 ghost use mathlib.Core.Path.{_≡_};
-ghost use Prim.Native.Nat.{_/_};
 ghost use Rattle.chunk_header.specs.Basic.{csid};
 ghost use Rattle.chunk_header.specs.Header.{nothing};
-ghost use Rattle.chunk_header.specs.Table.{typeOf, indexOf, fieldLength, headerLength};
+ghost use Rattle.chunk_header.specs.Table.{fieldLength, formatOf, headerLength, indexOf, typeOf};
 use time::RtmpTimestamp;
 
 // The four chunk types.
@@ -102,7 +101,7 @@ pub fn header_length(format: ChunkHeaderFormat) -> usize
 
 // The format that a chunk's first byte says.
 pub fn get_format(byte: u8) -> ChunkHeaderFormat
-    ensures { λ r. ⌜ typeOf r ≡ byte / 64 ⌝ }
+    ensures { λ r. ⌜ r ≡ formatOf byte ⌝ }
 {
     if byte < 64 {
         return ChunkHeaderFormat::Full;

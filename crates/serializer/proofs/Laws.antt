@@ -70,10 +70,10 @@ forced-most size type stream time payload droppable previous p q =
     let n = (length payload - 1) / size in
     let full : head Full (header o previous) ≡ 12 + length (extendedBytes (extended time)) = length-head Full (header o previous) in
     let first : head (format u previous) (header u previous) ≤ head Full (header o previous) =
-        rw (full, length-head (format u previous) (header u previous)) (head-less (format u previous) time (delta u previous))
+    rw (full, length-head (format u previous) (header u previous)) (head-less (format u previous) time (delta u previous))
     in
     let small : head Empty (header u previous) ≤ head Full (header o previous) =
-        omega (arith, full, length-head Empty (header u previous), extended-most (header u previous .«timestamp_field»))
+    omega (arith, full, length-head Empty (header u previous), extended-most (header u previous .«timestamp_field»))
     in
     let later : n * head Empty (header u previous) ≤ n * head Full (header o previous) = mul-le-mul (omega arith) small in
     rw (length-packet (format u previous) Empty (header u previous) size payload p q, length-packet Full Full (header o previous) size payload p q)
@@ -93,6 +93,7 @@ refusal-leaves s m payload output n e =
   where
     outcome : Bool → Bool → Bool → Outcome
     outcome a b c = cond a (refuse s output 1) (cond b (refuse s output 2) (cond c (refuse s output 5) (accept s m payload (s .«max_chunk_size») output)))
+
     go : (a b c : Bool) → outcome a b c .answer ≡ refused n → outcome a b c ≡ refuse s output n
     go true b c h = let k : 1 ≡ n = cc in ap (refuse s output) k
     go false true c h = let k : 2 ≡ n = cc in ap (refuse s output) k

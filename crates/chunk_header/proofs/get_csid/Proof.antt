@@ -40,7 +40,7 @@ wide-requires-2 : tie.Need-wide-requires-2
 wide-requires-2 c κs = search needs
 
 mul-t18 : tie.Need-mul-t18
-mul-t18 c = omega (arith, c .wide2 .ensures, c .before .shared-slice-known4 .given 2)
+mul-t18 c = omega (arith, c .wide2 .ensures, c .before .shared-slice-known4 .given 1, c .before .shared-slice-known4 .given 2)
 
 shared-slice-read-wide-3 : tie.Need-shared-slice-read-wide-3
 shared-slice-read-wide-3 c = search needs
@@ -49,10 +49,10 @@ wide-requires-3 : tie.Need-wide-requires-3
 wide-requires-3 c κs = search needs
 
 add-t22 : tie.Need-add-t22
-add-t22 c = omega (arith, c .wide3 .ensures, c .before .shared-slice-known5 .given 1, c .before .before .wide2 .ensures, c .before .before .before .shared-slice-known4 .given 2)
+add-t22 c = omega (arith, c .wide3 .ensures, c .before .shared-slice-known5 .given 1, c .before .shared-slice-known5 .given 2, c .before .before .wide2 .ensures, c .before .before .before .shared-slice-known4 .given 1, c .before .before .before .shared-slice-known4 .given 2)
 
 add-t23 : tie.Need-add-t23
-add-t23 c = omega (arith, c .wide3 .ensures, c .before .shared-slice-known5 .given 1, c .before .before .wide2 .ensures, c .before .before .before .shared-slice-known4 .given 2)
+add-t23 c = omega (arith, c .wide3 .ensures, c .before .shared-slice-known5 .given 1, c .before .shared-slice-known5 .given 2, c .before .before .wide2 .ensures, c .before .before .before .shared-slice-known4 .given 1, c .before .before .before .shared-slice-known4 .given 2)
 
 returns-5 : tie.Need-returns-5
 returns-5 c =

@@ -1,0 +1,62 @@
+-- What a chunk means (document 01, "Decoder"; Adobe 5.3.1.2): what may start, what may go on, what the time is.
+use Prim.Native.Nat.{ℕ}
+use mathlib.Core.Bool.{Bool, true, false, not, cond, _&&_, _||_}
+use mathlib.Core.List.{List, [], _∷_}
+use lib.Dec.{ltb, eqb}
+use Rattle.fields.specs.Cases.{_when_, first}
+use Rattle.time.specs.Clock.{sum}
+use Rattle.chunk_header.specs.declared.ChunkHeaderFormat.{ChunkHeaderFormat}
+use Rattle.chunk_header.specs.declared.ChunkHeaderFormat.the-variants.{Full, TimeDeltaWithoutMessageStreamId, TimeDeltaOnly, Empty}
+use Rattle.deserializer.specs.declared.rows.Row.{Row}
+
+-- a time field that says that an extended time follows
+abbrev pub maxField : ℕ
+maxField = 16777215
+
+abbrev pub isFull : ChunkHeaderFormat → Bool
+isFull Full = true
+isFull TimeDeltaWithoutMessageStreamId = false
+isFull TimeDeltaOnly = false
+isFull Empty = false
+
+abbrev pub isEmpty : ChunkHeaderFormat → Bool
+isEmpty Full = false
+isEmpty TimeDeltaWithoutMessageStreamId = false
+isEmpty TimeDeltaOnly = false
+isEmpty Empty = true
+
+-- "type 0 sets the time. Other types add the delta once, at the first chunk of a message"
+abbrev pub firstTime : ChunkHeaderFormat → ℕ → ℕ → ℕ
+firstTime Full before number = number
+firstTime TimeDeltaWithoutMessageStreamId before number = sum before number
+firstTime TimeDeltaOnly before number = sum before number
+firstTime Empty before number = sum before number
+
+-- what is refused at the last byte of a basic header. `has-row`: the stream has a row; `room`: a row is free;
+-- `inside`: a message is unfinished, and `own`: on this stream. 0: nothing is refused.
+unfoldable pub basicRefusal : ChunkHeaderFormat → (has-row free inside own : Bool) → ℕ
+basicRefusal format has-row free inside own =
+    first (9 when (not inside && (not (isFull format) && not has-row))
+    ∷ 10 when (isFull format && (not has-row && not free))
+    ∷ 11 when (inside && not own)
+    ∷ 12 when (inside && (not (isFull format) && not (isEmpty format)))
+    ∷ []) 0
+
+-- the header of a chunk repeats the header of the message
+abbrev pub repeats : Row → Row → ℕ → Bool
+repeats message header time =
+    eqb (header .«message_length») (message .«message_length»)
+    && (eqb (header .«message_type_id») (message .«message_type_id»)
+    && (eqb (header .«message_stream_id») (message .«message_stream_id»)
+    && eqb time (message .timestamp .value)))
+
+-- what is refused at the last byte of a header, extended time included: inside a message ..
+unfoldable pub laterRefusal : ChunkHeaderFormat → Row → Row → ℕ → ℕ
+laterRefusal format message header number = first (12 when (isFull format && not (repeats message header number)) ∷ []) 0
+
+-- .. and at a first chunk
+unfoldable pub firstRefusal : ChunkHeaderFormat → Row → ℕ → ℕ → ℕ
+firstRefusal format header number room =
+    first (13 when (not (isFull format) && (eqb (header .«timestamp_field») maxField && ltb number maxField))
+    ∷ 14 when ltb room (header .«message_length»)
+    ∷ []) 0

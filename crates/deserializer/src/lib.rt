@@ -1,0 +1,3 @@
+// The decoder: bytes in, messages out (chunk_io/deserializer.rs of rml_rtmp).
+mod reader;
+mod rows;

@@ -1,0 +1,61 @@
+// The table of 64 header rows, lent as numbers: six a row, and a row of id 0 is free.
+ghost use mathlib.Core.Path.{_≡_};
+ghost use Prim.Native.Nat.{_<_};
+ghost use lib.ListN.{length};
+ghost use Rattle.deserializer.specs.Rows.{putRow, rowAt};
+ghost use Rattle.deserializer.specs.Rows.{find as Rows·find};
+use time::RtmpTimestamp;
+
+pub const ROWS: usize = 64;
+
+// What is stored of a chunk stream.
+pub struct Row {
+    pub id: u32,
+    pub timestamp: RtmpTimestamp,
+    pub timestamp_field: u32,
+    pub message_length: u32,
+    pub message_type_id: u8,
+    pub message_stream_id: u32,
+}
+
+// The first row of this id, or 64.
+pub fn find(rows: &[u32; 384], id: u32) -> usize
+    ensures { λ r. ⌜ r ≡ Rows·find (now (rows .entry)) id ⌝ }
+{
+    let mut i = 0;
+    while i < ROWS {
+        if rows[6 * i] == id {
+            return i;
+        }
+        i += 1;
+    }
+    ROWS
+}
+
+pub fn row_at(rows: &[u32; 384], i: usize) -> Row
+    requires { ⌜ i < 64 ⌝ }
+    ensures { λ r. ⌜ r ≡ rowAt (now (rows .entry)) i ⌝ }
+{
+    let at = 6 * i;
+    Row {
+        id: rows[at],
+        timestamp: RtmpTimestamp::new(rows[at + 1]),
+        timestamp_field: rows[at + 2],
+        message_length: rows[at + 3],
+        message_type_id: (rows[at + 4] % 256) as u8,
+        message_stream_id: rows[at + 5],
+    }
+}
+
+pub fn put_row(rows: &mut [u32; 384], i: usize, row: Row)
+    requires { ⌜ i < 64 ⌝ }
+    ensures { λ _. ⌜ now (rows .exit) ≡ putRow (now (rows .entry)) i row ⌝ }
+{
+    let at = 6 * i;
+    rows[at] = row.id;
+    rows[at + 1] = row.timestamp.value;
+    rows[at + 2] = row.timestamp_field;
+    rows[at + 3] = row.message_length;
+    rows[at + 4] = row.message_type_id as u32;
+    rows[at + 5] = row.message_stream_id;
+}
