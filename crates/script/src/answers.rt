@@ -1,13 +1,34 @@
 // What a line answers.
+use crate::codec::Codec;
 use crate::hex::put_hex;
 use crate::text::put;
 use crate::text::put_numbered;
+use crate::text::put_words;
 
 // The answer of a line, put behind the text so far.
 pub enum Answer {
     // how long the text is now
     Text(usize),
     BadLine,
+}
+
+// An answer, and the codec handed back beside it.
+pub struct Reply {
+    pub answer: Answer,
+    pub codec: Codec,
+}
+
+// A bad line, which leaves the codec as it was.
+pub fn bad(codec: Codec) -> Reply {
+    Reply {
+        answer: Answer::BadLine,
+        codec,
+    }
+}
+
+// Answers `ok`.
+pub fn ok(text: &mut [u8], filled: usize) -> Answer {
+    Answer::Text(put_words(text, filled, b"ok"))
 }
 
 // Answers `refused K`.

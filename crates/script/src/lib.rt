@@ -1,11 +1,17 @@
 // Runs a script of the codec's calls: one call a line on standard input, one answer a line on
 // standard output.
 mod answers;
+mod codec;
 mod control_calls;
 mod control_read;
 mod control_write;
+mod enc_answers;
+mod enc_calls;
+mod enc_msg;
+mod enc_size;
 mod hex;
 mod input;
+mod kept;
 mod lines;
 mod numbers;
 mod output;

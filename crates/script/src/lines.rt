@@ -1,6 +1,11 @@
 // The lines of a script: which are skipped, which are bad, and which calls the others are.
 use crate::answers::Answer;
+use crate::answers::Reply;
+use crate::answers::bad;
+use crate::codec::Codec;
 use crate::control_calls;
+use crate::enc_calls;
+use crate::kept::Kept;
 use crate::output::end_answer;
 use crate::state::State;
 use crate::text::put_numbered;
@@ -25,43 +30,69 @@ fn answered(state: State, text: &mut [u8], answer: Answer) -> State {
     }
 }
 
+// Whether the line is empty or a comment.
+fn is_skipped(line: &[u8]) -> bool {
+    if line.len() == 0 {
+        return true;
+    }
+    line[0] == b'#'
+}
+
 // Answers the call that the line is.
 fn answer_call(
-    state: State,
+    codec: Codec,
     line: &[u8],
     text: &mut [u8],
+    filled: usize,
     bytes: &mut [u8],
     output: &mut [u8],
-) -> State {
+) -> Reply {
     let name = word(line, 0);
     if same(name, b"time") {
-        let answer = time_calls::answer(line, text, state.waiting);
-        return answered(state, text, answer);
+        return Reply {
+            answer: time_calls::answer(line, text, filled),
+            codec,
+        };
     }
     if same(name, b"control") {
-        let answer = control_calls::answer(line, text, state.waiting, bytes, output);
-        return answered(state, text, answer);
+        return Reply {
+            answer: control_calls::answer(line, text, filled, bytes, output),
+            codec,
+        };
     }
-    bad_line(state, text)
+    if same(name, b"enc") {
+        return enc_calls::answer(codec, line, text, filled, bytes, output);
+    }
+    bad(codec)
 }
 
 // Answers the line, or skips it.
 pub fn answer_line(
     state: State,
+    codec: Codec,
     line: &[u8],
     text: &mut [u8],
     bytes: &mut [u8],
     output: &mut [u8],
-) -> State {
+) -> Kept {
     let taken = state.take_line();
     if LONGEST_LINE < line.len() {
-        return bad_line(taken, text);
+        return Kept {
+            state: bad_line(taken, text),
+            codec,
+        };
     }
-    if line.len() == 0 {
-        return taken;
+    if is_skipped(line) {
+        return Kept {
+            state: taken,
+            codec,
+        };
     }
-    if line[0] == b'#' {
-        return taken;
+    let reply = answer_call(codec, line, text, taken.waiting, bytes, output);
+    let answer = reply.answer;
+    let next = reply.codec;
+    Kept {
+        state: answered(taken, text, answer),
+        codec: next,
     }
-    answer_call(taken, line, text, bytes, output)
 }

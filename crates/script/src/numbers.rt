@@ -1,8 +1,21 @@
 // Numbers and digits in words.
+use check::same;
 
 // What a word says that is to be a number.
 pub enum Number {
     Value(u32),
+    Bad,
+}
+
+// What a word says that is to be a number of 8 bits.
+pub enum Byte {
+    Value(u8),
+    Bad,
+}
+
+// What a word says that is to be 0 or 1.
+pub enum Flag {
+    Value(bool),
     Bad,
 }
 
@@ -62,4 +75,26 @@ pub fn read_number(word: &[u8]) -> Number {
         i += 1;
     }
     Number::Value(value as u32)
+}
+
+// The number up to 255 that the word is in decimal.
+pub fn read_byte(word: &[u8]) -> Byte {
+    let Number::Value(value) = read_number(word) else {
+        return Byte::Bad;
+    };
+    if 255 < value {
+        return Byte::Bad;
+    }
+    Byte::Value(value as u8)
+}
+
+// Whether the word is `1` and not `0`.
+pub fn read_flag(word: &[u8]) -> Flag {
+    if same(word, b"0") {
+        return Flag::Value(false);
+    }
+    if same(word, b"1") {
+        return Flag::Value(true);
+    }
+    Flag::Bad
 }

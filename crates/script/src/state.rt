@@ -1,4 +1,4 @@
-// What is kept from line to line.
+// How far a run is.
 pub struct State {
     // how many lines were taken
     pub lines: u64,

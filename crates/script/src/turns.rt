@@ -1,5 +1,7 @@
 // A run, turn by turn: a turn takes a line, or reads more where there is no whole line.
+use crate::codec::Codec;
 use crate::input::read_more;
+use crate::kept::Kept;
 use crate::lines::LONGEST_LINE;
 use crate::lines::answer_line;
 use crate::output::write_answers;
@@ -7,41 +9,61 @@ use crate::parts::find;
 use crate::parts::part;
 use crate::state::State;
 
-// One turn. Answers are written before anything is read. A line that is too long already is taken
-// without its end, and so is the last line; where the last line is empty it is skipped as any other.
-fn turn(
+// Reads more behind the `count` bytes of an unfinished line. Where nothing comes they are the last
+// line, with which the run is over; where that is empty it is skipped as any other.
+fn read_on(
     state: State,
+    codec: Codec,
+    count: usize,
     input: &mut [u8],
     text: &mut [u8],
     bytes: &mut [u8],
     output: &mut [u8],
-) -> State {
+) -> Kept {
+    let more = read_more(state, input);
+    if more.end != count {
+        return Kept { state: more, codec };
+    }
+    let last = part(input, 0, count);
+    answer_line(more.stop(), codec, last, text, bytes, output)
+}
+
+// One turn. Answers are written before anything is read. A line that is too long already is taken
+// without its end.
+fn turn(
+    kept: Kept,
+    input: &mut [u8],
+    text: &mut [u8],
+    bytes: &mut [u8],
+    output: &mut [u8],
+) -> Kept {
+    let state = kept.state;
+    let codec = kept.codec;
     let start = state.start;
     let end = state.end;
     let read = part(input, 0, end);
     let line_end = find(read, start, b'\n');
     if line_end < read.len() {
         let line = part(read, start, line_end);
-        return answer_line(state.hold(line_end + 1, end), line, text, bytes, output);
+        let held = state.hold(line_end + 1, end);
+        return answer_line(held, codec, line, text, bytes, output);
     }
     let rest = part(read, start, end);
     if LONGEST_LINE < rest.len() {
-        return answer_line(state, rest, text, bytes, output);
+        return answer_line(state, codec, rest, text, bytes, output);
     }
     let count = rest.len();
-    let more = read_more(write_answers(state, text), input);
-    if more.end != count {
-        return more;
-    }
-    answer_line(more, part(input, 0, count), text, bytes, output).stop()
+    let written = write_answers(state, text);
+    read_on(written, codec, count, input, text, bytes, output)
 }
 
 // Runs the whole script. The turns are counted down from a number that no run uses up.
 pub fn run_all(input: &mut [u8], text: &mut [u8], bytes: &mut [u8], output: &mut [u8]) {
-    let mut state = State::new();
+    let mut kept = Kept::new();
     let mut turns = u64::MAX;
     while 0 < turns {
-        state = turn(state, input, text, bytes, output);
+        kept = turn(kept, input, text, bytes, output);
+        let state = kept.state;
         if state.over {
             write_answers(state, text);
             return;

@@ -6,10 +6,10 @@ use Rattle.script.proofs.turns.run_all.Statement.{statement}
 use Rattle.script.proofs.turns.run_all.Tie as tie
 
 abbrev Inv-loop : tie.InvT-loop
-Inv-loop input₀ text₀ bytes₀ output₀ state₀ turns₀ input text bytes output state turns = (length input ≡ length input₀) × (length text ≡ length text₀) × (length bytes ≡ length bytes₀) × (length output ≡ length output₀)
+Inv-loop input₀ text₀ bytes₀ output₀ kept₀ turns₀ input text bytes output kept turns = (length input ≡ length input₀) × (length text ≡ length text₀) × (length bytes ≡ length bytes₀) × (length output ≡ length output₀)
 
 abbrev μ-loop : tie.MeasureT-loop
-μ-loop input₀ text₀ bytes₀ output₀ state₀ turns₀ input text bytes output state turns = turns
+μ-loop input₀ text₀ bytes₀ output₀ kept₀ turns₀ input text bytes output kept turns = turns
 
 new-requires : tie.Need-new-requires Inv-loop μ-loop
 new-requires c κs = search needs
