@@ -1,2 +1,4 @@
 pub mod Naming
+pub mod Runs
 pub mod Table
+pub mod Turning

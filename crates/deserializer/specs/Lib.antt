@@ -1,3 +1,6 @@
+pub mod Answer
+pub mod Call
 pub mod Machine
 pub mod Meaning
 pub mod Rows
+pub mod Turn

@@ -144,37 +144,79 @@ basicBy Incomplete room size rows r format kept = go (at r kept)
 abbrev pub basic : ℕ → ℕ → List ℕ → Reader → List ℕ → Stage → Stepped
 basic room size rows r bytes kept = basicBy (csid bytes) room size rows r (formatOf (getD bytes 0 0)) kept
 
+-- the number of the same four bytes in the other order
+abbrev pub swapped : ℕ → ℕ
+swapped n = number (littleEndian 4 n)
+
 -- one byte more of a number
 abbrev pub gathered : ℕ → ℕ → ℕ
 gathered before byte = before % 2 ^ 24 * 256 + byte
 
--- a field of several bytes: whole, or one byte nearer to it
-abbrev pub last : ℕ → Bool
-last n = leb n 1
+-- fields of several bytes: whole with this byte, or one byte nearer to it
+unfoldable pub timestampField : ℕ → ℕ → Reader → ℕ → ℕ → ℕ → Stepped
+timestampField room size r before lacks b =
+    let number = gathered before b in
+    cond (leb lacks 1) (lengthNext room size (headed r (fielded (r .chunk .header) number))) (go (at r (InitialTimestamp number (lacks - 1))))
 
-unfoldable pub stepped : Stage → ℕ → ℕ → List ℕ → Reader → ℕ → Stepped
+unfoldable pub lengthField : ℕ → ℕ → Reader → ℕ → ℕ → ℕ → Stepped
+lengthField room size r before lacks b =
+    let number = gathered before b in
+    cond (leb lacks 1) (typeNext room size (headed r (lengthed (r .chunk .header) number))) (go (at r (MessageLength number (lacks - 1))))
+
+unfoldable pub typeField : ℕ → ℕ → Reader → ℕ → Stepped
+typeField room size r b = streamNext room size (headed r (typed (r .chunk .header) b))
+
+-- the one field that is little-endian
+unfoldable pub streamField : ℕ → ℕ → Reader → ℕ → ℕ → ℕ → Stepped
+streamField room size r before lacks b =
+    let number = gathered before b in
+    cond (leb lacks 1) (extendedNext room size (headed r (streamed (r .chunk .header) (swapped number)))) (go (at r (MessageStreamId number (lacks - 1))))
+
+unfoldable pub extendedField : ℕ → ℕ → Reader → ℕ → ℕ → ℕ → Stepped
+extendedField room size r before lacks b =
+    let number = gathered before b in
+    cond (leb lacks 1) (whole room size r number) (go (at r (ExtendedTimestamp number (lacks - 1))))
+
+-- a byte of a header, by the field that it belongs to
+abbrev pub stepped : Stage → ℕ → ℕ → List ℕ → Reader → ℕ → Stepped
 stepped AtCsid room size rows r b = basic room size rows r (b ∷ []) (CsidSecond b)
 stepped (CsidSecond a) room size rows r b = basic room size rows r (a ∷ b ∷ []) (CsidThird a b)
 stepped (CsidThird a c) room size rows r b = basic room size rows r (a ∷ c ∷ b ∷ []) (CsidThird a c)
-stepped (InitialTimestamp v n) room size rows r b =
-    cond (last n) (lengthNext room size (headed r (fielded (r .chunk .header) (gathered v b)))) (go (at r (InitialTimestamp (gathered v b) (n - 1))))
-stepped (MessageLength v n) room size rows r b =
-    cond (last n) (typeNext room size (headed r (lengthed (r .chunk .header) (gathered v b)))) (go (at r (MessageLength (gathered v b) (n - 1))))
-stepped MessageTypeId room size rows r b = streamNext room size (headed r (typed (r .chunk .header) b))
-stepped (MessageStreamId v n) room size rows r b =
-    cond (last n) (extendedNext room size (headed r (streamed (r .chunk .header) (number (littleEndian 4 (gathered v b)))))) (go (at r (MessageStreamId (gathered v b) (n - 1))))
-stepped (ExtendedTimestamp v n) room size rows r b =
-    cond (last n) (whole room size r (gathered v b)) (go (at r (ExtendedTimestamp (gathered v b) (n - 1))))
+stepped (InitialTimestamp before lacks) room size rows r b = timestampField room size r before lacks b
+stepped (MessageLength before lacks) room size rows r b = lengthField room size r before lacks b
+stepped MessageTypeId room size rows r b = typeField room size r b
+stepped (MessageStreamId before lacks) room size rows r b = streamField room size r before lacks b
+stepped (ExtendedTimestamp before lacks) room size rows r b = extendedField room size r before lacks b
 stepped MessagePayload room size rows r b = refuse r 255
 
--- a reader in a payload lacks a byte at least, and its chunk ends within the room
+abbrev pub inPayload : Stage → Bool
+inPayload AtCsid = false
+inPayload (CsidSecond a) = false
+inPayload (CsidThird a b) = false
+inPayload (InitialTimestamp before lacks) = false
+inPayload (MessageLength before lacks) = false
+inPayload MessageTypeId = false
+inPayload (MessageStreamId before lacks) = false
+inPayload (ExtendedTimestamp before lacks) = false
+inPayload MessagePayload = true
+
+-- a reader in a payload lacks a byte at least, and its chunk ends within the room; no call makes another one
 unfoldable pub pays : ℕ → Reader → Bool
 pays room r = not (eqb (r .chunk .left) 0) && leb (r .message .got + r .chunk .left) room
 
+-- so many bytes of the message, and so many that the chunk lacks
+abbrev pub paid : Reader → ℕ → ℕ → Reader
+paid r got left =
+    let c = r .chunk in
+    reader MessagePayload (current (c .format) (c .place) (c .before) (c .header) left) (unfinished (r .message .id) got)
+
+-- a reader that has just taken payload: in its chunk still, between chunks, or at its message's end
+abbrev pub settle : Reader → Stepped
+settle r =
+    cond (eqb (r .chunk .left) 0)
+    (cond (ltb (r .message .got) (r .chunk .header .«message_length»)) (paused r (r .message .got)) (ended r))
+    (go r)
+
 -- after n bytes of payload
 unfoldable pub landed : Reader → ℕ → Stepped
-landed r n =
-    let c = r .chunk in
-    let got = r .message .got + n in
-    let s = reader MessagePayload (current (c .format) (c .place) (c .before) (c .header) (c .left - n)) (unfinished (r .message .id) got) in
-    cond (eqb (c .left - n) 0) (cond (ltb got (c .header .«message_length»)) (paused s got) (ended s)) (go s)
+landed r n = settle (paid r (r .message .got + n) (r .chunk .left - n))

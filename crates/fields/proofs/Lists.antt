@@ -25,6 +25,11 @@ pub stored-none : (out bs : List ℕ) (at n : ℕ) → length bs ≡ n → lengt
 unfolding stored
 stored-none out bs at n e h = rw (e, lt-leb (at + n) (length out) h)
 
+-- where the output reaches far enough
+pub stored-fits : (out bs : List ℕ) (at : ℕ) → at + length bs ≤ length out → stored out at bs ≡ sets out at bs
+unfolding stored
+stored-fits out bs at h = rw (le-leb (at + length bs) (length out) h)
+
 pub length-stored : (out bs : List ℕ) (at : ℕ) → length (stored out at bs) ≡ length out
 unfolding stored
 length-stored out bs at = go (leb (at + length bs) (length out))

@@ -1,0 +1,53 @@
+-- The field is whole, or a byte nearer to it.
+use borrow.Author.Tests.{le-leb, lt-leb}
+use Rattle.deserializer.specs.Machine.{streamField}
+use borrow.Author.Needs.{needs}
+use Rattle.deserializer.proofs.step.stream_field.Statement.{statement}
+use Rattle.deserializer.proofs.step.stream_field.Tie as tie
+
+gathered-requires : tie.Need-gathered-requires
+gathered-requires c κs = search needs
+
+swap-bytes-requires : tie.Need-swap-bytes-requires
+swap-bytes-requires c κs = search needs
+
+streamed-requires : tie.Need-streamed-requires
+streamed-requires c κs = search needs
+
+headed-requires : tie.Need-headed-requires
+headed-requires c κs = search needs
+
+extended-next-requires : tie.Need-extended-next-requires
+extended-next-requires c κs = search needs
+
+returns : tie.Need-returns
+unfolding streamField
+returns c = simp (c .extended-next .ensures, c .before .headed .ensures, c .before .before .streamed .ensures, c .before .before .before .swap-bytes .ensures, le-leb _ _ (c .before .before .before .before .before .before .if1 .taken), c .before .before .before .before .before .before .before .gathered .ensures)
+
+sub-t15 : tie.Need-sub-t15
+sub-t15 c = search needs
+
+at-requires : tie.Need-at-requires
+at-requires c κs = search needs
+
+go-requires : tie.Need-go-requires
+go-requires c κs = search needs
+
+returns-2 : tie.Need-returns-2
+unfolding streamField
+returns-2 c = simp (c .go .ensures, c .before .at .ensures, lt-leb _ _ (c .before .before .if1 .left), c .before .before .before .gathered .ensures)
+
+pub stream-field-spec : {M : Type 1} → statement M
+stream-field-spec =
+    tie.close
+    (tie.spec
+    gathered-requires
+    swap-bytes-requires
+    streamed-requires
+    headed-requires
+    extended-next-requires
+    returns
+    sub-t15
+    at-requires
+    go-requires
+    returns-2)

@@ -1,0 +1,49 @@
+-- The field is whole, or a byte nearer to it.
+use borrow.Author.Tests.{le-leb, lt-leb}
+use Rattle.deserializer.specs.Machine.{timestampField}
+use borrow.Author.Needs.{needs}
+use Rattle.deserializer.proofs.step.timestamp_field.Statement.{statement}
+use Rattle.deserializer.proofs.step.timestamp_field.Tie as tie
+
+gathered-requires : tie.Need-gathered-requires
+gathered-requires c κs = search needs
+
+fielded-requires : tie.Need-fielded-requires
+fielded-requires c κs = search needs
+
+headed-requires : tie.Need-headed-requires
+headed-requires c κs = search needs
+
+length-next-requires : tie.Need-length-next-requires
+length-next-requires c κs = search needs
+
+returns : tie.Need-returns
+unfolding timestampField
+returns c = simp (c .length-next .ensures, c .before .headed .ensures, c .before .before .fielded .ensures, le-leb _ _ (c .before .before .before .before .before .if1 .taken), c .before .before .before .before .before .before .gathered .ensures)
+
+sub-t14 : tie.Need-sub-t14
+sub-t14 c = search needs
+
+at-requires : tie.Need-at-requires
+at-requires c κs = search needs
+
+go-requires : tie.Need-go-requires
+go-requires c κs = search needs
+
+returns-2 : tie.Need-returns-2
+unfolding timestampField
+returns-2 c = simp (c .go .ensures, c .before .at .ensures, lt-leb _ _ (c .before .before .if1 .left), c .before .before .before .gathered .ensures)
+
+pub timestamp-field-spec : {M : Type 1} → statement M
+timestamp-field-spec =
+    tie.close
+    (tie.spec
+    gathered-requires
+    fielded-requires
+    headed-requires
+    length-next-requires
+    returns
+    sub-t14
+    at-requires
+    go-requires
+    returns-2)

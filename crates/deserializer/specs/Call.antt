@@ -1,0 +1,80 @@
+-- A call of the decoder: a run of single bytes that stops at the first message or refusal (document 01, "Decoder").
+use Prim.Native.Nat.{ℕ, _+_}
+use mathlib.Core.Bool.{cond, not}
+use mathlib.Core.List.{List, [], _∷_}
+use lib.Dec.{ltb, eqb}
+use lib.ListN.{length, set}
+use Rattle.fields.specs.Cases.{_when_, first}
+use Rattle.deserializer.specs.declared.ChunkDeserializer.{ChunkDeserializer}
+use Rattle.deserializer.specs.declared.reader.Event.{Event}
+use Rattle.deserializer.specs.declared.reader.Event.the-variants.{Go, Chunk, Message, Refuse}
+use Rattle.deserializer.specs.declared.reader.Stepped.{Stepped}
+use Rattle.deserializer.specs.declared.rows.Row.{Row}
+use Rattle.deserializer.specs.Answer.{Listed, message, more, refused}
+use Rattle.deserializer.specs.Machine.{inPayload, landed, pays, refuse, stepped}
+use Rattle.deserializer.specs.Rows.{putRow}
+
+-- what a byte does: a byte of a payload that may come is stored at its own place
+unfoldable pub stepOf : ChunkDeserializer → ℕ → Stepped
+stepOf d b =
+    cond (inPayload (d .reader .stage))
+    (cond (pays (d .room) (d .reader)) (landed (d .reader) 1) (refuse (d .reader) 255))
+    (stepped (d .reader .stage) (d .room) (d .«max_chunk_size») (d .rows) (d .reader) b)
+
+unfoldable pub writes : ChunkDeserializer → List ℕ → ℕ → List ℕ
+writes d payload b = cond (inPayload (d .reader .stage)) (cond (pays (d .room) (d .reader)) (set payload (d .reader .message .got) b) payload) payload
+
+-- a row is put where the step says one
+abbrev pub putAt : List ℕ → ℕ → Row → List ℕ
+putAt rows place row = cond (ltb place 64) (putRow rows place row) rows
+
+-- a refusal closes the decoder with its own number
+abbrev pub closes : Event → ℕ → ℕ
+closes Go n = n
+closes Chunk n = n
+closes Message n = n
+closes (Refuse k) n = k
+
+unfoldable pub after : ChunkDeserializer → Stepped → ChunkDeserializer
+after d s = record {
+  room = d .room;
+  «max_chunk_size» = d .«max_chunk_size»;
+  closed = closes (s .event) (d .closed);
+  reader = s .reader;
+  rows = putAt (d .rows) (s .place) (s .row);
+}
+
+-- the answer, the decoder and the payload buffer after a call
+pub record Outcome : Type 0 where
+  pub answer : Listed
+  pub deserializer : ChunkDeserializer
+  pub payload : List ℕ
+
+abbrev pub outcome : Listed → ChunkDeserializer → List ℕ → Outcome
+outcome answer d payload = record { answer = answer; deserializer = d; payload = payload }
+
+-- a message, as it was read, at its last byte
+abbrev pub handed : ChunkDeserializer → ℕ → Listed
+handed d used =
+    let h = d .reader .chunk .header in
+    message (h .«message_type_id») (h .«message_stream_id») (h .timestamp .value) (h .«message_length») used
+
+-- after a byte: an answer, or what follows
+abbrev pub end : Event → ChunkDeserializer → List ℕ → ℕ → Outcome → Outcome
+end Go d payload used rest = rest
+end Chunk d payload used rest = rest
+end Message d payload used rest = outcome (handed d used) d payload
+end (Refuse k) d payload used rest = outcome (refused k used) d payload
+
+unfoldable pub run : List ℕ → ChunkDeserializer → List ℕ → ℕ → Outcome
+run [] d payload used = outcome (more used) d payload
+run (b ∷ bs) d payload used =
+    end (stepOf d b .event) (after d (stepOf d b)) (writes d payload b) (used + 1)
+    (run bs (after d (stepOf d b)) (writes d payload b) (used + 1))
+
+-- "closed, 7, then by bytes"
+unfoldable pub next : ChunkDeserializer → List ℕ → List ℕ → Outcome
+next d input payload =
+    first (outcome (refused (d .closed) 0) d payload when not (eqb (d .closed) 0)
+    ∷ outcome (refused 7 0) d payload when ltb (length payload) (d .room)
+    ∷ []) (run input d payload 0)

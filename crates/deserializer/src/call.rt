@@ -1,0 +1,137 @@
+// A call: header bytes one by one and payload by stretches, until a message, a refusal or the end of the input.
+ghost use mathlib.Core.Path.{_≡_};
+ghost use Prim.Native.Nat.{_≤_, _<_, min};
+ghost use lib.ListN.{length};
+ghost use Rattle.deserializer.specs.Call.{closes as Call·closes, putAt};
+ghost use Rattle.deserializer.specs.Turn.{Keeps, Pays, Turned};
+use crate::parts::refuse;
+use crate::payload::in_payload;
+use crate::payload::landed;
+use crate::payload::pays;
+use crate::reader::Event;
+use crate::reader::Reader;
+use crate::reader::Stepped;
+use crate::rows::ROWS;
+use crate::rows::Row;
+use crate::rows::put_row;
+use crate::step::step;
+use fields::put_bytes;
+use time::RtmpTimestamp;
+
+// A decoder without its rows.
+pub struct Core {
+    pub room: u32,
+    pub max_chunk_size: u32,
+    pub closed: u8,
+    pub reader: Reader,
+}
+
+// What a call answers.
+pub enum Answer {
+    // its payload is the first `length` bytes of the payload buffer
+    Message {
+        type_id: u8,
+        stream_id: u32,
+        timestamp: RtmpTimestamp,
+        length: u32,
+        used: usize,
+    },
+    More {
+        used: usize,
+    },
+    Refused {
+        number: u8,
+        used: usize,
+    },
+}
+
+// After a turn: the decoder without its rows, what was settled, and the place in the input.
+pub struct Moved {
+    pub core: Core,
+    pub event: Event,
+    pub at: usize,
+}
+
+fn put_at(rows: &mut [u32; 384], place: usize, row: Row)
+    ensures { λ _. ⌜ now (rows .exit) ≡ putAt (now (rows .entry)) place row ⌝ }
+{
+    if place < ROWS {
+        put_row(rows, place, row);
+    }
+}
+
+fn closes(event: Event, closed: u8) -> u8
+    ensures { λ r. ⌜ r ≡ Call·closes event closed ⌝ }
+{
+    match event {
+        Event::Go => closed,
+        Event::Chunk => closed,
+        Event::Message => closed,
+        Event::Refuse(number) => number,
+    }
+}
+
+// Keeps what a step says.
+fn keep(core: Core, rows: &mut [u32; 384], stepped: Stepped, at: usize) -> Moved
+    ensures { λ r. ⌜ Keeps core (now (rows .entry)) stepped at r (now (rows .exit)) ⌝ }
+{
+    let row = stepped.row;
+    put_at(rows, stepped.place, row);
+    let event = stepped.event;
+    let reader = stepped.reader;
+    let closed = closes(event, core.closed);
+    Moved {
+        core: Core {
+            room: core.room,
+            max_chunk_size: core.max_chunk_size,
+            closed: closed,
+            reader: reader,
+        },
+        event: event,
+        at: at,
+    }
+}
+
+fn least(a: usize, b: usize) -> usize
+    ensures { λ r. ⌜ r ≡ min a b ⌝ }
+{
+    if a < b { a } else { b }
+}
+
+fn wide(x: u32) -> usize
+    ensures { λ r. ⌜ r ≡ x ⌝ }
+{
+    x as usize
+}
+
+// Takes as many bytes of a payload as there are.
+fn stretch(core: Core, rows: &mut [u32; 384], input: &[u8], at: usize, payload: &mut [u8]) -> Moved
+    requires { ⌜ Pays core (now input) at (now payload) ⌝ }
+    ensures { λ r. ⌜ Turned core (now (rows .entry)) (now (input .entry)) at (now (payload .entry)) r (now (rows .exit)) (now (payload .exit)) ⌝ }
+{
+    let reader = core.reader;
+    let chunk = reader.chunk;
+    let message = reader.message;
+    let n = least(input.len() - at, wide(chunk.left));
+    put_bytes(&input[at..at + n], payload, wide(message.got));
+    let stepped = landed(reader, n as u32);
+    keep(core, rows, stepped, at + n)
+}
+
+// Takes a byte of a header, or a stretch of a payload.
+fn turn(core: Core, rows: &mut [u32; 384], input: &[u8], at: usize, payload: &mut [u8]) -> Moved
+    requires { ⌜ (core .room ≤ length (now payload)) × (at < length (now input)) ⌝ }
+    ensures { λ r. ⌜ Turned core (now (rows .entry)) (now (input .entry)) at (now (payload .entry)) r (now (rows .exit)) (now (payload .exit)) ⌝ }
+{
+    let reader = core.reader;
+    let stage = reader.stage;
+    if in_payload(stage) {
+        if pays(core.room, reader) {
+            return stretch(core, rows, input, at, payload);
+        }
+        let stepped = refuse(reader, 255);
+        return keep(core, rows, stepped, at + 1);
+    }
+    let stepped = step(core.room, core.max_chunk_size, rows, reader, input[at]);
+    keep(core, rows, stepped, at + 1)
+}
