@@ -42,6 +42,6 @@ stretched c rows input at payload p n e s f payload′ g =
     let bytes : length (take n (drop at input)) ≡ n = simp (length-take, length-drop) (omega arith) in
     let fits : c .reader .message .got + length (take n (drop at input)) ≤ length payload = rw bytes (omega arith) in
     let left : payload′ ≡ sets payload (c .reader .message .got) (take n (drop at input)) =
-        g ∙ rw (add-sub-cancel-left at n) (stored-fits payload (take n (drop at input)) (c .reader .message .got) fits)
+    g ∙ rw (add-sub-cancel-left at n) (stored-fits payload (take n (drop at input)) (c .reader .message .got) fits)
     in
     bulk-at input at n (whole c rows) payload (p .stage) (omega arith) (omega arith) ends (omega arith) ∙ rw (f, left)

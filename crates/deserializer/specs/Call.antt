@@ -8,6 +8,7 @@ use Rattle.fields.specs.Cases.{_when_, first}
 use Rattle.deserializer.specs.declared.ChunkDeserializer.{ChunkDeserializer}
 use Rattle.deserializer.specs.declared.reader.Event.{Event}
 use Rattle.deserializer.specs.declared.reader.Event.the-variants.{Go, Chunk, Message, Refuse}
+use Rattle.deserializer.specs.declared.reader.Reader.{Reader}
 use Rattle.deserializer.specs.declared.reader.Stepped.{Stepped}
 use Rattle.deserializer.specs.declared.rows.Row.{Row}
 use Rattle.deserializer.specs.Answer.{Listed, message, more, refused}
@@ -54,16 +55,16 @@ abbrev pub outcome : Listed → ChunkDeserializer → List ℕ → Outcome
 outcome answer d payload = record { answer = answer; deserializer = d; payload = payload }
 
 -- a message, as it was read, at its last byte
-abbrev pub handed : ChunkDeserializer → ℕ → Listed
-handed d used =
-    let h = d .reader .chunk .header in
+abbrev pub read : Reader → ℕ → Listed
+read r used =
+    let h = r .chunk .header in
     message (h .«message_type_id») (h .«message_stream_id») (h .timestamp .value) (h .«message_length») used
 
 -- after a byte: an answer, or what follows
 abbrev pub end : Event → ChunkDeserializer → List ℕ → ℕ → Outcome → Outcome
 end Go d payload used rest = rest
 end Chunk d payload used rest = rest
-end Message d payload used rest = outcome (handed d used) d payload
+end Message d payload used rest = outcome (read (d .reader) used) d payload
 end (Refuse k) d payload used rest = outcome (refused k used) d payload
 
 unfoldable pub run : List ℕ → ChunkDeserializer → List ℕ → ℕ → Outcome

@@ -119,7 +119,7 @@ fn stretch(core: Core, rows: &mut [u32; 384], input: &[u8], at: usize, payload: 
 }
 
 // Takes a byte of a header, or a stretch of a payload.
-fn turn(core: Core, rows: &mut [u32; 384], input: &[u8], at: usize, payload: &mut [u8]) -> Moved
+pub fn turn(core: Core, rows: &mut [u32; 384], input: &[u8], at: usize, payload: &mut [u8]) -> Moved
     requires { ⌜ (core .room ≤ length (now payload)) × (at < length (now input)) ⌝ }
     ensures { λ r. ⌜ Turned core (now (rows .entry)) (now (input .entry)) at (now (payload .entry)) r (now (rows .exit)) (now (payload .exit)) ⌝ }
 {

@@ -1,6 +1,7 @@
 // The decoder: bytes in, messages out (chunk_io/deserializer.rs of rml_rtmp).
 mod basic;
 mod call;
+mod feed;
 mod header;
 mod parts;
 mod payload;

@@ -59,7 +59,7 @@ returns c =
     let n = c .before .before .before .before .before .before .before .before .before in
     let w = c .before .before .before .before .before .before in
     let long : n .least .result ≡ min (length (a .input .now) - a .at) (a .core .reader .chunk .left) =
-        n .least .ensures ∙ ap (λ (x : ℕ). min (length (a .input .now) - a .at) x) (c .before .before .before .before .before .before .before .before .before .before .wide .ensures)
+    n .least .ensures ∙ ap (λ (x : ℕ). min (length (a .input .now) - a .at) x) (c .before .before .before .before .before .before .before .before .before .before .wide .ensures)
     in
     let left = c .before .before .before .before .before .put-bytes .ensures ∙ ap (λ (x : ℕ). stored (a .payload .now) x (take (a .at + n .least .result - a .at) (drop (a .at) (a .input .now)))) (w .wide2 .ensures) in
     kept-turns (a .core) (a .rows .now) (a .input .now) (a .at) (a .payload .now) (c .before .before .landed .result) (a .at + n .least .result) (c .keep .result) (c .keep .last .1 .0) (c .before .before .before .before .before .put-bytes .last .1 .0) (c .keep .ensures)

@@ -1,0 +1,92 @@
+// The loop of a call, over a decoder without its rows and rows lent to it.
+ghost use mathlib.Core.Path.{_≡_};
+ghost use Rattle.deserializer.specs.Answer.{answerOf};
+ghost use Rattle.deserializer.specs.Call.{next, outcome, read};
+ghost use Rattle.deserializer.specs.Turn.{whole};
+use crate::call::Answer;
+use crate::call::Core;
+use crate::call::turn;
+use crate::reader::Event;
+use crate::reader::Reader;
+
+pub struct Fed {
+    pub core: Core,
+    pub answer: Answer,
+}
+
+// The message that has been read.
+fn handed(reader: Reader, used: usize) -> Answer
+    ensures { λ r. ⌜ answerOf r ≡ read reader used ⌝ }
+{
+    let chunk = reader.chunk;
+    let header = chunk.header;
+    let timestamp = header.timestamp;
+    Answer::Message {
+        type_id: header.message_type_id,
+        stream_id: header.message_stream_id,
+        timestamp: timestamp,
+        length: header.message_length,
+        used: used,
+    }
+}
+
+fn wide(x: u32) -> usize
+    ensures { λ r. ⌜ r ≡ x ⌝ }
+{
+    x as usize
+}
+
+pub fn feed(core: Core, rows: &mut [u32; 384], input: &[u8], payload: &mut [u8]) -> Fed
+    ensures { λ r. ⌜ outcome (answerOf (r .answer)) (whole (r .core) (now (rows .exit))) (now (payload .exit)) ≡ next (whole core (now (rows .entry))) (now (input .entry)) (now (payload .entry)) ⌝ }
+{
+    let mut now = core;
+    let closed = core.closed;
+    if closed != 0 {
+        return Fed {
+            core: now,
+            answer: Answer::Refused {
+                number: closed,
+                used: 0,
+            },
+        };
+    }
+    let room = wide(core.room);
+    if payload.len() < room {
+        return Fed {
+            core: now,
+            answer: Answer::Refused { number: 7, used: 0 },
+        };
+    }
+    let mut at = 0;
+    while at < input.len() {
+        let moved = turn(now, rows, input, at, payload);
+        let next = moved.core;
+        let event = moved.event;
+        now = next;
+        at = moved.at;
+        match event {
+            Event::Go => {}
+            Event::Chunk => {}
+            Event::Message => {
+                let reader = next.reader;
+                return Fed {
+                    core: next,
+                    answer: handed(reader, at),
+                };
+            }
+            Event::Refuse(number) => {
+                return Fed {
+                    core: next,
+                    answer: Answer::Refused {
+                        number: number,
+                        used: at,
+                    },
+                };
+            }
+        }
+    }
+    Fed {
+        core: now,
+        answer: Answer::More { used: at },
+    }
+}
