@@ -3,4 +3,5 @@ pub mod Call
 pub mod Machine
 pub mod Meaning
 pub mod Rows
+pub mod Told
 pub mod Turn

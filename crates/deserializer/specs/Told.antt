@@ -1,0 +1,99 @@
+-- Making a decoder, and telling it a chunk size (document 01, refusals 6, 3, 4 and 8).
+use Prim.Native.Nat.{ℕ}
+use mathlib.Core.Bool.{Bool, true, false, not, _&&_, _||_}
+use mathlib.Core.List.{List, [], _∷_}
+use lib.Dec.{ltb, eqb}
+use lib.ListN.{replicate}
+use Rattle.fields.specs.Cases.{_when_, first}
+use Rattle.chunk_header.specs.declared.ChunkHeaderFormat.the-variants.{Full}
+use Rattle.deserializer.specs.declared.ChunkDeserializer.{ChunkDeserializer}
+use Rattle.deserializer.specs.declared.Telling.{Telling}
+use Rattle.deserializer.specs.declared.Telling.the-variants.{Taken, Refused}
+use Rattle.deserializer.specs.declared.Told.{Told}
+use Rattle.deserializer.specs.declared.reader.Reader.{Reader}
+use Rattle.deserializer.specs.declared.reader.Stage.{Stage}
+use Rattle.deserializer.specs.declared.reader.Stage.the-variants.{
+  Csid,
+  CsidSecond,
+  CsidThird,
+  InitialTimestamp,
+  MessageLength,
+  MessageTypeId,
+  MessageStreamId,
+  ExtendedTimestamp,
+  MessagePayload,
+}
+use Rattle.deserializer.specs.Machine.{current, reader, unfinished}
+use Rattle.deserializer.specs.Rows.{claimed}
+
+-- each answer's number, as document 01 lists it
+pub data Size : Type 0 where
+  taken : Size
+  refused : ℕ → Size
+
+abbrev pub sizeOf : Telling → Size
+sizeOf Taken = taken
+sizeOf (Refused n) = refused n
+
+-- the answer, and the decoder after it
+pub record Outcome : Type 0 where
+  pub answer : Size
+  pub deserializer : ChunkDeserializer
+
+abbrev pub outcomeOf : Told → Outcome
+outcomeOf r = record { answer = sizeOf (r .telling); deserializer = r .deserializer }
+
+abbrev pub outcome : Size → ChunkDeserializer → Outcome
+outcome answer d = record { answer = answer; deserializer = d }
+
+abbrev pub unsized : ChunkDeserializer → ℕ → Told
+unsized d n = record { deserializer = d; telling = Refused n }
+
+-- the largest room, and the largest chunk size
+abbrev pub maxRoom : ℕ
+maxRoom = 16777215
+
+abbrev pub maxSize : ℕ
+maxSize = 2147483647
+
+-- before the first byte of a chunk
+abbrev pub atStart : Stage → Bool
+atStart Csid = true
+atStart (CsidSecond a) = false
+atStart (CsidThird a b) = false
+atStart (InitialTimestamp before lacks) = false
+atStart (MessageLength before lacks) = false
+atStart MessageTypeId = false
+atStart (MessageStreamId before lacks) = false
+atStart (ExtendedTimestamp before lacks) = false
+atStart MessagePayload = false
+
+-- no byte of a message has come that has not ended
+abbrev pub between : Reader → Bool
+between r = atStart (r .stage) && eqb (r .message .id) 0
+
+abbrev pub sized : ChunkDeserializer → ℕ → ChunkDeserializer
+sized d size = record { room = d .room; «max_chunk_size» = size; closed = d .closed; reader = d .reader; rows = d .rows }
+
+-- "closed, 3, 4, 8"
+unfoldable pub told : ChunkDeserializer → ℕ → Outcome
+told d size =
+    first (outcome (refused (d .closed)) d when not (eqb (d .closed) 0)
+    ∷ outcome (refused 3) d when eqb size 0
+    ∷ outcome (refused 4) d when ltb maxSize size
+    ∷ outcome (refused 8) d when not (between (d .reader))
+    ∷ []) (outcome taken (sized d size))
+
+-- a decoder to which nothing has come: chunk size 128, no row used
+abbrev pub fresh : ℕ → ℕ → ChunkDeserializer
+fresh room closed = record {
+  room = room;
+  «max_chunk_size» = 128;
+  closed = closed;
+  reader = reader Csid (current Full 64 (claimed 0) (claimed 0) 0) (unfinished 0 0);
+  rows = replicate 384 0;
+}
+
+-- a room of 0 or over 16777215 makes a decoder closed with 6
+unfoldable pub made : ℕ → Outcome
+made room = first (outcome (refused 6) (fresh room 6) when (eqb room 0 || ltb maxRoom room) ∷ []) (outcome taken (fresh room 0))
