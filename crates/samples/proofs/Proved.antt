@@ -8,9 +8,31 @@ use Rattle.serializer.specs.Header.{delta, format}
 use Rattle.serializer.specs.Message.{chunkStream}
 use Rattle.serializer.specs.Packet.{pieces, packet}
 use Rattle.serializer.specs.Serialize.{serialized, sizeChanged}
+use Rattle.chunk_header.specs.Table.{fieldLength, formatOf}
+use Rattle.deserializer.specs.Call.{after, next, run, stepOf, writes}
+use Rattle.deserializer.specs.Machine.{
+  opens,
+  whole,
+  extendedNext,
+  streamNext,
+  typeNext,
+  lengthNext,
+  timestampNext,
+  named,
+  timestampField,
+  lengthField,
+  typeField,
+  streamField,
+  extendedField,
+  pays,
+  landed,
+}
+use Rattle.deserializer.specs.Meaning.{basicRefusal, laterRefusal, firstRefusal}
+use Rattle.deserializer.specs.Rows.{putRow, seek}
+use Rattle.deserializer.specs.Told.{made}
 use Rattle.samples.specs.Sample.{AsPrinted}
 use Rattle.samples.specs.Table.{table}
 
 pub samples-hold : AsPrinted table
-unfolding bigEndian littleEndian gather csid chunkBytes known count reading delta format chunkStream pieces packet serialized sizeChanged
+unfolding fieldLength formatOf after next run stepOf writes opens whole extendedNext streamNext typeNext lengthNext timestampNext named timestampField lengthField typeField streamField extendedField pays landed basicRefusal laterRefusal firstRefusal putRow seek made bigEndian littleEndian gather csid chunkBytes known count reading delta format chunkStream pieces packet serialized sizeChanged
 samples-hold = refl

@@ -1,3 +1,4 @@
+pub mod Decoded
 pub mod Encoded
 pub mod Sample
 pub mod Table
