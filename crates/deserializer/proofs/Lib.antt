@@ -1,4 +1,6 @@
+pub mod Cut
 pub mod Naming
+pub mod Progress
 pub mod Runs
 pub mod Table
 pub mod Turning
