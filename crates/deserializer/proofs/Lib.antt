@@ -1,5 +1,9 @@
 pub mod Cut
+pub mod Fields
+pub mod Identifying
 pub mod Naming
+pub mod Reading
+pub mod ReadsBack
 pub mod Progress
 pub mod Runs
 pub mod Table

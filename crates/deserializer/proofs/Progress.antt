@@ -1,8 +1,7 @@
 -- What a call uses: at least one byte where it may run, no more than there are, and all of them where it asks for more, since each byte counts one.
 use Prim.Native.Nat.{ℕ, suc, _+_, _≤_, _<_}
-use mathlib.Core.Path.{_≡_, refl, sym, _∙_}
+use mathlib.Core.Path.{_≡_}
 use mathlib.Core.List.{List, [], _∷_}
-use native.Mathlib.Nat.{not-suc-le-zero}
 use native.Mathlib.Omega.{arith}
 use lib.ListN.{length}
 use Rattle.deserializer.specs.declared.ChunkDeserializer.{ChunkDeserializer}

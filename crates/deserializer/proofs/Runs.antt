@@ -14,7 +14,6 @@ use borrow.Author.Tests.{eq-eqb, ne-eqb, eqb-false, le-leb, leb-true, lt-ltb, le
 use Rattle.deserializer.specs.declared.ChunkDeserializer.{ChunkDeserializer}
 use Rattle.deserializer.specs.declared.reader.Reader.{Reader}
 use Rattle.deserializer.specs.declared.reader.Stepped.{Stepped}
-use Rattle.deserializer.specs.declared.reader.Event.the-variants.{Go, Chunk, Message, Refuse}
 use Rattle.deserializer.specs.Answer.{more, refused}
 use Rattle.deserializer.specs.Call.{Outcome, outcome, stepOf, writes, after, run, next}
 use Rattle.deserializer.specs.Machine.{inPayload, go, paid, pays, landed, refuse, stepped}

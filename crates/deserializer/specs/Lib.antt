@@ -1,5 +1,6 @@
 pub mod Answer
 pub mod Call
+pub mod Chunk
 pub mod Machine
 pub mod Meaning
 pub mod Rows

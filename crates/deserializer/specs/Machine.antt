@@ -11,21 +11,10 @@ use Rattle.chunk_header.specs.declared.Csid.the-variants.{Id, Incomplete}
 use Rattle.chunk_header.specs.Basic.{csid}
 use Rattle.chunk_header.specs.Table.{typeOf, formatOf, fieldLength}
 use Rattle.deserializer.specs.declared.reader.Current.{Current}
-use Rattle.deserializer.specs.declared.reader.Event.{Event}
 use Rattle.deserializer.specs.declared.reader.Event.the-variants.{Go, Chunk, Message, Refuse}
 use Rattle.deserializer.specs.declared.reader.Reader.{Reader}
 use Rattle.deserializer.specs.declared.reader.Stage.{Stage}
-use Rattle.deserializer.specs.declared.reader.Stage.the-variants.{
-  Csid as AtCsid,
-  CsidSecond,
-  CsidThird,
-  InitialTimestamp,
-  MessageLength,
-  MessageTypeId,
-  MessageStreamId,
-  ExtendedTimestamp,
-  MessagePayload,
-}
+use Rattle.deserializer.specs.declared.reader.Stage.the-variants.{Csid as AtCsid, CsidSecond, CsidThird, InitialTimestamp, MessageLength, MessageTypeId, MessageStreamId, ExtendedTimestamp, MessagePayload}
 use Rattle.deserializer.specs.declared.reader.Stepped.{Stepped}
 use Rattle.deserializer.specs.declared.reader.Unfinished.{Unfinished}
 use Rattle.deserializer.specs.declared.rows.Row.{Row}

@@ -1,7 +1,7 @@
 -- What a chunk means (document 01, "Decoder"; Adobe 5.3.1.2): what may start, what may go on, what the time is.
 use Prim.Native.Nat.{ℕ}
-use mathlib.Core.Bool.{Bool, true, false, not, cond, _&&_, _||_}
-use mathlib.Core.List.{List, [], _∷_}
+use mathlib.Core.Bool.{Bool, true, false, not, _&&_}
+use mathlib.Core.List.{[], _∷_}
 use lib.Dec.{ltb, eqb}
 use Rattle.fields.specs.Cases.{_when_, first}
 use Rattle.time.specs.Clock.{sum}

@@ -1,7 +1,7 @@
 -- Making a decoder, and telling it a chunk size (document 01, refusals 6, 3, 4 and 8).
 use Prim.Native.Nat.{ℕ}
 use mathlib.Core.Bool.{Bool, true, false, not, _&&_, _||_}
-use mathlib.Core.List.{List, [], _∷_}
+use mathlib.Core.List.{[], _∷_}
 use lib.Dec.{ltb, eqb}
 use lib.ListN.{replicate}
 use Rattle.fields.specs.Cases.{_when_, first}
@@ -12,17 +12,7 @@ use Rattle.deserializer.specs.declared.Telling.the-variants.{Taken, Refu
 use Rattle.deserializer.specs.declared.Told.{Told}
 use Rattle.deserializer.specs.declared.reader.Reader.{Reader}
 use Rattle.deserializer.specs.declared.reader.Stage.{Stage}
-use Rattle.deserializer.specs.declared.reader.Stage.the-variants.{
-  Csid,
-  CsidSecond,
-  CsidThird,
-  InitialTimestamp,
-  MessageLength,
-  MessageTypeId,
-  MessageStreamId,
-  ExtendedTimestamp,
-  MessagePayload,
-}
+use Rattle.deserializer.specs.declared.reader.Stage.the-variants.{Csid, CsidSecond, CsidThird, InitialTimestamp, MessageLength, MessageTypeId, MessageStreamId, ExtendedTimestamp, MessagePayload}
 use Rattle.deserializer.specs.Machine.{current, reader, unfinished}
 use Rattle.deserializer.specs.Rows.{claimed}
 

@@ -1,0 +1,186 @@
+-- The bytes of a header are read back: its fields one after the other, each from where the one before it ended.
+use Prim.Native.Nat.{ℕ, _+_, _*_, _%_, _/_, _^_, _<_}
+use mathlib.Core.Path.{_≡_, refl, _∙_}
+use mathlib.Core.List.{List, [], _∷_, _++_, append-assoc}
+use native.Mathlib.Nat.{add-zero}
+use native.Mathlib.Omega.{arith}
+use lib.Dec.{lit<}
+use lib.ListN.{length, length-append}
+use borrow.Author.Tests.{eq-eqb, ne-eqb}
+use Rattle.fields.specs.Endian.{bigEndian, littleEndian, gather}
+use Rattle.fields.proofs.Endian.{bytes-big, bytes-little, length-big, length-little, number-big}
+use Rattle.chunk_header.specs.Layout.{Header, type0, type1, type2, type3, headerBytes, Extended, absent, present, extendedBytes}
+use Rattle.chunk_header.specs.Table.{fieldLength}
+use Rattle.deserializer.specs.declared.ChunkDeserializer.{ChunkDeserializer}
+use Rattle.deserializer.specs.declared.reader.Reader.{Reader}
+use Rattle.deserializer.specs.declared.reader.Stage.{Stage}
+use Rattle.deserializer.specs.declared.reader.Stage.the-variants.{InitialTimestamp, MessageLength, MessageTypeId, MessageStreamId, ExtendedTimestamp}
+use Rattle.deserializer.specs.declared.reader.Stepped.{Stepped}
+use Rattle.deserializer.specs.declared.reader.Unfinished.{Unfinished}
+use Rattle.deserializer.specs.declared.rows.Row.{Row}
+use Rattle.deserializer.specs.Call.{Outcome, after, run}
+use Rattle.deserializer.specs.Chunk.{ExtendedFits, HeaderFits, carried, formatFor, says}
+use Rattle.deserializer.specs.Machine.{at, current, extendedField, extendedNext, fielded, go, headed, lengthed, lengthField, lengthNext, reader, streamed, streamField, streamNext, swapped, timestampField, timestampNext, typed, typeField, typeNext, whole}
+use Rattle.deserializer.specs.Meaning.{maxField}
+use Rattle.deserializer.proofs.Fields.{Reaches, field}
+use Rattle.deserializer.proofs.Runs.{run-header, then}
+
+-- the same step with the same number
+of-number : {o : Outcome} {d : ChunkDeserializer} {r : Reader} {payload rest : List ℕ} {n x y : ℕ} (f : ℕ → Reader → Stepped) → x ≡ y
+    → Reaches o d (f x) r payload n rest → Reaches o d (f y) r payload n rest
+of-number f e h = rw e at h
+
+-- the last digit of a number, and those before it
+last-digit : (z e : ℕ) → e < 256 → (z * 256 + e) % 256 ≡ e
+last-digit z e h = omega arith
+
+other-digits : (z e : ℕ) → e < 256 → (z * 256 + e) / 256 ≡ z
+other-digits z e h = omega arith
+
+-- four bytes in the other order
+turned : (a b c e : ℕ) → a < 256 → b < 256 → c < 256 → e < 256 → swapped (gather 0 (a ∷ b ∷ c ∷ e ∷ [])) ≡ gather 0 (e ∷ c ∷ b ∷ a ∷ [])
+unfolding littleEndian gather
+turned a b c e ha hb hc he =
+    rw (
+      last-digit (((0 * 256 + a) * 256 + b) * 256 + c) e he,
+      other-digits (((0 * 256 + a) * 256 + b) * 256 + c) e he,
+      last-digit ((0 * 256 + a) * 256 + b) c hc,
+      other-digits ((0 * 256 + a) * 256 + b) c hc,
+      last-digit (0 * 256 + a) b hb,
+      other-digits (0 * 256 + a) b hb,
+      last-digit 0 a ha,
+    )
+
+digits : (v : ℕ) → v < 2 ^ 32 → gather 0 (v / 256 / 256 / 256 % 256 ∷ v / 256 / 256 % 256 ∷ v / 256 % 256 ∷ v % 256 ∷ []) ≡ v
+unfolding gather
+digits v h =
+    let p : v / 256 * 256 + v % 256 ≡ v = omega arith in
+    let q : v / 256 / 256 * 256 + v / 256 % 256 ≡ v / 256 = omega arith in
+    let s : v / 256 / 256 / 256 * 256 + v / 256 / 256 % 256 ≡ v / 256 / 256 = omega arith in
+    let t : 0 * 256 + v / 256 / 256 / 256 % 256 ≡ v / 256 / 256 / 256 = omega arith in
+    rw (t, s, q, p)
+
+-- a number of four bytes, in the other order and back
+swapped-back : (v : ℕ) → v < 2 ^ 32 → swapped (gather 0 (littleEndian 4 v)) ≡ v
+unfolding littleEndian
+swapped-back v h =
+    turned (v % 256) (v / 256 % 256) (v / 256 / 256 % 256) (v / 256 / 256 / 256 % 256) (omega arith) (omega arith) (omega arith) (omega arith)
+    ∙ digits v h
+
+module _ (d : ChunkDeserializer) (payload : List ℕ) where
+  -- the time field, the length, the type, the stream id and the extended time
+  time-field : (r : Reader) (v n : ℕ) (rest : List ℕ) → v < 2 ^ 24
+      → Reaches (run (bigEndian 3 v ++ rest) (after d (go (at r (InitialTimestamp 0 3)))) payload n) d
+      (λ r′. lengthNext (d .room) (d .«max_chunk_size») (headed r′ (fielded (r′ .chunk .header) v))) r payload (n + 1 + 2) rest
+  unfolding bigEndian timestampField
+  time-field r v n rest h =
+      rw (number-big 3 v h) at
+      (field InitialTimestamp (λ room size r′ x. lengthNext room size (headed r′ (fielded (r′ .chunk .header) x))) (λ x k. refl) (λ x k room size rows r′ b. refl) d r payload rest
+      _ (bigEndian 2 v) 0 0 n (bytes-big 3 v) (lit< tt) (lit< tt))
+
+  length-field : (r : Reader) (v n : ℕ) (rest : List ℕ) → v < 2 ^ 24
+      → Reaches (run (bigEndian 3 v ++ rest) (after d (go (at r (MessageLength 0 3)))) payload n) d
+      (λ r′. typeNext (d .room) (d .«max_chunk_size») (headed r′ (lengthed (r′ .chunk .header) v))) r payload (n + 1 + 2) rest
+  unfolding bigEndian lengthField
+  length-field r v n rest h =
+      rw (number-big 3 v h) at
+      (field MessageLength (λ room size r′ x. typeNext room size (headed r′ (lengthed (r′ .chunk .header) x))) (λ x k. refl) (λ x k room size rows r′ b. refl) d r payload rest
+      _ (bigEndian 2 v) 0 0 n (bytes-big 3 v) (lit< tt) (lit< tt))
+
+  type-field : (r : Reader) (v n : ℕ) (rest : List ℕ) → v < 2 ^ 8
+      → run (bigEndian 1 v ++ rest) (after d (go (at r MessageTypeId))) payload n
+      ≡ then d (streamNext (d .room) (d .«max_chunk_size») (headed (at r MessageTypeId) (typed (r .chunk .header) v))) payload (n + 1) rest
+  unfolding bigEndian typeField after
+  type-field r v n rest h =
+      let e : v / 256 ^ 0 % 256 ≡ v = omega arith in
+      run-header (v / 256 ^ 0 % 256) rest (after d (go (at r MessageTypeId))) payload n refl ∙ (rw e)
+
+  stream-field : (r : Reader) (v n : ℕ) (rest : List ℕ) → v < 2 ^ 32
+      → Reaches (run (littleEndian 4 v ++ rest) (after d (go (at r (MessageStreamId 0 4)))) payload n) d
+      (λ r′. extendedNext (d .room) (d .«max_chunk_size») (headed r′ (streamed (r′ .chunk .header) v))) r payload (n + 1 + 3) rest
+  unfolding littleEndian streamField
+  stream-field r v n rest h =
+      of-number (λ x r′. extendedNext (d .room) (d .«max_chunk_size») (headed r′ (streamed (r′ .chunk .header) x))) (swapped-back v h)
+      (field MessageStreamId (λ room size r′ x. extendedNext room size (headed r′ (streamed (r′ .chunk .header) (swapped x)))) (λ x k. refl) (λ x k room size rows r′ b. refl) d r payload rest
+      _ (littleEndian 3 (v / 256)) 0 0 n (bytes-little 4 v) (lit< tt) (lit< tt))
+
+  extended-field : (r : Reader) (v n : ℕ) (rest : List ℕ) → v < 2 ^ 32
+      → Reaches (run (bigEndian 4 v ++ rest) (after d (go (at r (ExtendedTimestamp 0 4)))) payload n) d
+      (λ r′. whole (d .room) (d .«max_chunk_size») r′ v) r payload (n + 1 + 3) rest
+  unfolding bigEndian extendedField
+  extended-field r v n rest h =
+      rw (number-big 4 v h) at
+      (field ExtendedTimestamp (λ room size r′ x. whole room size r′ x) (λ x k. refl) (λ x k room size rows r′ b. refl) d r payload rest
+      _ (bigEndian 3 v) 0 0 n (bytes-big 4 v) (lit< tt) (lit< tt))
+
+  -- a header, from the byte after the basic header to the byte before the extended time
+  module _ (st : Stage) (place : ℕ) (before row : Row) (left : ℕ) (m : Unfinished) where
+    abbrev begun : Header → Reader
+    begun h = reader st (current (formatFor h) place before row left) m
+
+    abbrev HeaderRead : Header → ℕ → List ℕ → Type 0
+    HeaderRead h n rest =
+        Reaches (then d (timestampNext (d .room) (d .«max_chunk_size») (begun h)) payload n (headerBytes h ++ rest)) d
+        (λ r. extendedNext (d .room) (d .«max_chunk_size») (headed r (carried h (r .chunk .header)))) (begun h) payload (n + length (headerBytes h)) rest
+
+    type-2 : (delta n : ℕ) (rest : List ℕ) → delta < 2 ^ 24 → HeaderRead (type2 delta) n rest
+    unfolding timestampNext lengthNext typeNext streamNext fieldLength
+    type-2 delta n rest h =
+        let f = time-field (begun (type2 delta)) delta n rest h in
+        let k : n + 1 + 2 ≡ n + length (bigEndian 3 delta) = rw (length-big 3 delta) (omega arith) in
+        record { stage = f .stage; reached = f .reached ∙ (rw k) }
+
+    type-1 : (delta long type n : ℕ) (rest : List ℕ) → delta < 2 ^ 24 → long < 2 ^ 24 → type < 2 ^ 8 → HeaderRead (type1 delta long type) n rest
+    unfolding timestampNext lengthNext typeNext streamNext fieldLength
+    type-1 delta long type n rest h i j =
+        let r = begun (type1 delta long type) in
+        let s = bigEndian 1 type ++ rest in
+        let f = time-field r delta n (bigEndian 3 long ++ s) h in
+        let r1 = headed (at r (f .stage)) (fielded row delta) in
+        let g = length-field r1 long (n + 1 + 2) s i in
+        let r2 = headed (at r1 (g .stage)) (lengthed (r1 .chunk .header) long) in
+        let k : n + 1 + 2 + 1 + 2 + 1 ≡ n + length (headerBytes (type1 delta long type)) =
+        simp (length-append, length-big) (omega arith)
+        in
+        let e : headerBytes (type1 delta long type) ++ rest ≡ bigEndian 3 delta ++ (bigEndian 3 long ++ s) = simp append-assoc in
+        record { stage = MessageTypeId; reached = (rw e) ∙ f .reached ∙ g .reached ∙ type-field r2 type (n + 1 + 2 + 1 + 2) rest j ∙ (rw k) }
+
+    type-0 : (time long type stream n : ℕ) (rest : List ℕ) → time < 2 ^ 24 → long < 2 ^ 24 → type < 2 ^ 8 → stream < 2 ^ 32
+        → HeaderRead (type0 time long type stream) n rest
+    unfolding timestampNext lengthNext typeNext streamNext fieldLength
+    type-0 time long type stream n rest h i j q =
+        let r = begun (type0 time long type stream) in
+        let t = littleEndian 4 stream ++ rest in
+        let s = bigEndian 1 type ++ t in
+        let f = time-field r time n (bigEndian 3 long ++ s) h in
+        let r1 = headed (at r (f .stage)) (fielded row time) in
+        let g = length-field r1 long (n + 1 + 2) s i in
+        let r2 = headed (at r1 (g .stage)) (lengthed (r1 .chunk .header) long) in
+        let r3 = headed (at r2 MessageTypeId) (typed (r2 .chunk .header) type) in
+        let u = stream-field r3 stream (n + 1 + 2 + 1 + 2 + 1) rest q in
+        let k : n + 1 + 2 + 1 + 2 + 1 + 1 + 3 ≡ n + length (headerBytes (type0 time long type stream)) =
+        simp (length-append, length-big, length-little) (omega arith)
+        in
+        let e : headerBytes (type0 time long type stream) ++ rest ≡ bigEndian 3 time ++ (bigEndian 3 long ++ s) = simp append-assoc in
+        record {
+          stage = u .stage;
+          reached = (rw e) ∙ f .reached ∙ g .reached ∙ type-field r2 type (n + 1 + 2 + 1 + 2) t j ∙ u .reached ∙ (rw k);
+        }
+
+    pub header-read : (h : Header) (n : ℕ) (rest : List ℕ) → HeaderFits h → HeaderRead h n rest
+    unfolding timestampNext lengthNext typeNext streamNext fieldLength
+    header-read (type0 time long type stream) n rest h = type-0 time long type stream n rest (h .0) (h .1) (h .2) (h .3)
+    header-read (type1 delta long type) n rest h = type-1 delta long type n rest (h .0) (h .1) (h .2)
+    header-read (type2 delta) n rest h = type-2 delta n rest h
+    header-read type3 n rest h = record { stage = st; reached = rw (add-zero n) }
+
+  -- the extended time, where the field says that there is one
+  pub extended-read : (e : Extended) (r : Reader) (s : Stage) (n : ℕ) (rest : List ℕ) → ExtendedFits e (r .chunk .header)
+      → Reaches (then d (extendedNext (d .room) (d .«max_chunk_size») (at r s)) payload n (extendedBytes e ++ rest)) d
+      (λ r′. whole (d .room) (d .«max_chunk_size») r′ (says e (r .chunk .header))) r payload (n + length (extendedBytes e)) rest
+  unfolding extendedNext
+  extended-read absent r s n rest h = record { stage = s; reached = rw (ne-eqb (r .chunk .header .«timestamp_field») maxField h, add-zero n) }
+  extended-read (present time) r s n rest h =
+      let f = extended-field r time n rest (h .1) in
+      let k : n + 1 + 3 ≡ n + length (bigEndian 4 time) = rw (length-big 4 time) (omega arith) in
+      record { stage = f .stage; reached = (rw (eq-eqb (r .chunk .header .«timestamp_field») maxField (h .0))) ∙ f .reached ∙ (rw k) }

@@ -1,0 +1,261 @@
+-- The machine reads back a whole chunk: its basic header names the row, its header settles the row, its payload fills the buffer.
+use Prim.Native.Nat.{ℕ, _+_, _-_, _≤_, _<_}
+use mathlib.Core.Path.{_≡_, refl, sym, ap, _∙_}
+use mathlib.Core.Logic.{_≢_}
+use mathlib.Core.Bool.{Bool, true, false, cond, not}
+use mathlib.Core.List.{List, [], _∷_, _++_, append-assoc}
+use native.Mathlib.Nat.{add-zero}
+use native.Mathlib.Omega.{arith}
+use lib.Dec.{ltb, eqb}
+use lib.ListN.{length, length-append}
+use lib.Seq.{sets}
+use borrow.Author.Tests.{eq-eqb, ne-eqb, eqb-true, eqb-false, le-ltb}
+use Rattle.chunk_header.specs.declared.ChunkHeaderFormat.the-variants.{Full}
+use Rattle.chunk_header.specs.Layout.{Chunk, Header, type0, type1, type2, type3, basicBytes, headerBytes, extendedBytes, chunkBytes, format}
+use Rattle.chunk_header.specs.Table.{fieldLength, typeOf}
+use Rattle.deserializer.specs.declared.ChunkDeserializer.{ChunkDeserializer}
+use Rattle.deserializer.specs.declared.reader.Event.the-variants.{Chunk as ChunkEnds, Message}
+use Rattle.deserializer.specs.declared.reader.Reader.{Reader}
+use Rattle.deserializer.specs.declared.reader.Stage.{Stage}
+use Rattle.deserializer.specs.declared.reader.Stage.the-variants.{Csid, MessagePayload}
+use Rattle.deserializer.specs.declared.reader.Stepped.{Stepped}
+use Rattle.deserializer.specs.Call.{after, run}
+use Rattle.deserializer.specs.Chunk.{ChunkFits, basicRefused, formatFor, got, header, headerRefused, inside, left, placeOf, row, says, stored}
+use Rattle.deserializer.specs.Machine.{at, current, go, landed, named, opens, reader, refuse, timestampNext, unfinished, whole}
+use Rattle.deserializer.specs.Meaning.{basicRefusal, firstRefusal, laterRefusal}
+use Rattle.deserializer.specs.Rows.{claimed, find, free, putRow}
+use Rattle.deserializer.proofs.Fields.{Reaches}
+use Rattle.deserializer.proofs.Identifying.{basic-read}
+use Rattle.deserializer.proofs.Naming.{named-refused}
+use Rattle.deserializer.proofs.Reading.{extended-read, header-read}
+use Rattle.deserializer.proofs.Runs.{bulk, then}
+
+-- the decoder once a stream has its row
+abbrev pub claiming : ChunkDeserializer → ℕ → ChunkDeserializer
+claiming d id = record {
+  room = d .room;
+  «max_chunk_size» = d .«max_chunk_size»;
+  closed = d .closed;
+  reader = d .reader;
+  rows = cond (ltb (find (d .rows) id) 64) (d .rows) (putRow (d .rows) (free (d .rows)) (claimed id));
+}
+
+no-elements : (xs : List ℕ) → length xs ≡ 0 → xs ≡ []
+no-elements [] h = refl
+no-elements (x ∷ xs) h = absurd (omega arith)
+
+-- the number of a chunk's type is that of its header
+type-for : (h : Header) → typeOf (formatFor h) ≡ format h
+type-for (type0 time length type stream) = refl
+type-for (type1 delta length type) = refl
+type-for (type2 delta) = refl
+type-for type3 = refl
+
+-- a decoder between chunks is one whose reader has just been put there
+put-between : (d : ChunkDeserializer) → d .reader .stage ≡ Csid → after d (go (at (d .reader) Csid)) ≡ d
+unfolding after
+put-between d s = rw (← s)
+
+-- where nothing is refused, a type 0 without a row of its own finds a free one
+has-free : (inside own : Bool) (t : Bool) → basicRefusal Full false t inside own ≡ 0 → t ≡ true
+unfolding basicRefusal
+has-free inside own true h = refl
+has-free true own false h = absurd (let z : 10 ≡ 0 = h in omega arith)
+has-free false own false h = absurd (let z : 10 ≡ 0 = h in omega arith)
+
+module _ (d : ChunkDeserializer) (c : Chunk) (payload : List ℕ) where
+  -- the reader at the last byte of the basic header, of the header, and in the payload
+  abbrev reading : Stage → Reader
+  reading st = reader st (current (formatFor (c .header)) (placeOf (d .rows) (c .id)) (row d c) (row d c) 0) (d .reader .message)
+
+  abbrev read : Stage → Reader
+  read st = reader st (current (formatFor (c .header)) (placeOf (d .rows) (c .id)) (row d c) (header d c) 0) (d .reader .message)
+
+  begins : (st : Stage) (m : ℕ) (rest : List ℕ) → basicRefused d c ≡ 0 → (ltb (find (d .rows) (c .id)) 64 ≡ false → formatFor (c .header) ≡ Full)
+      → then d (named (d .room) (d .«max_chunk_size») (d .rows) (at (d .reader) st) (formatFor (c .header)) (c .id)) payload m rest
+      ≡ then (claiming d (c .id)) (timestampNext (d .room) (d .«max_chunk_size») (reading st)) payload m rest
+  unfolding named timestampNext fieldLength after
+  begins st m rest k f = by-row (ltb (find (d .rows) (c .id)) 64) refl
+    where
+      by-row : (t : Bool) → ltb (find (d .rows) (c .id)) 64 ≡ t
+          → then d (named (d .room) (d .«max_chunk_size») (d .rows) (at (d .reader) st) (formatFor (c .header)) (c .id)) payload m rest
+          ≡ then (claiming d (c .id)) (timestampNext (d .room) (d .«max_chunk_size») (reading st)) payload m rest
+      by-row true e = rw (k, e)
+      by-row false e =
+          let q = f e in
+          let u : ltb (free (d .rows)) 64 ≡ true = has-free (inside d c) (eqb (d .reader .message .id) (c .id)) (ltb (free (d .rows)) 64) (rw (e, q) at k) in
+          rw (k, e, u, q)
+
+  -- the reader whose header is settled
+  abbrev settled : Stage → Reader
+  settled st = reader st (current (formatFor (c .header)) (placeOf (d .rows) (c .id)) (row d c) (stored d c) 0) (d .reader .message)
+
+  settles : (st : Stage) → headerRefused d c ≡ 0
+      → whole (d .room) (d .«max_chunk_size») (read st) (says (c .extended) (header d c)) ≡ opens (d .«max_chunk_size») (settled st) (got d c)
+  unfolding whole
+  settles st k = by-message (eqb (d .reader .message .id) 0) refl
+    where
+      by-message : (t : Bool) → eqb (d .reader .message .id) 0 ≡ t
+          → whole (d .room) (d .«max_chunk_size») (read st) (says (c .extended) (header d c)) ≡ opens (d .«max_chunk_size») (settled st) (got d c)
+      by-message true e =
+          let j : firstRefusal (formatFor (c .header)) (header d c) (says (c .extended) (header d c)) (d .room) ≡ 0 = rw e at k in
+          rw (e, j)
+      by-message false e =
+          let j : laterRefusal (formatFor (c .header)) (row d c) (header d c) (says (c .extended) (header d c)) ≡ 0 = rw e at k in
+          rw (e, j)
+
+  settles-not : (st : Stage) → headerRefused d c ≢ 0
+      → whole (d .room) (d .«max_chunk_size») (read st) (says (c .extended) (header d c)) ≡ refuse (read st) (headerRefused d c)
+  unfolding whole
+  settles-not st k = by-message (eqb (d .reader .message .id) 0) refl
+    where
+      by-message : (t : Bool) → eqb (d .reader .message .id) 0 ≡ t
+          → whole (d .room) (d .«max_chunk_size») (read st) (says (c .extended) (header d c)) ≡ refuse (read st) (headerRefused d c)
+      by-message true e =
+          let j : firstRefusal (formatFor (c .header)) (header d c) (says (c .extended) (header d c)) (d .room) ≢ 0 = rw e at k in
+          rw (e, ne-eqb _ 0 j)
+      by-message false e =
+          let j : laterRefusal (formatFor (c .header)) (row d c) (header d c) (says (c .extended) (header d c)) ≢ 0 = rw e at k in
+          rw (e, ne-eqb _ 0 j)
+
+  -- what the last byte of the chunk does: the chunk ends before its message does, or with it, and its row is stored
+  abbrev pub finished : Stepped
+  finished =
+      let done = got d c + length (c .payload) in
+      let goes-on = ltb done (header d c .«message_length») in
+      record {
+        reader = reader Csid (current (formatFor (c .header)) (placeOf (d .rows) (c .id)) (row d c) (stored d c) 0) (cond goes-on (unfinished (stored d c .id) done) (unfinished 0 0));
+        event = cond goes-on ChunkEnds Message;
+        place = placeOf (d .rows) (c .id);
+        row = stored d c;
+      }
+
+  -- a message of no bytes ends with its header
+  no-bytes : (st : Stage) → header d c .«message_length» ≡ 0 → opens (d .«max_chunk_size») (settled st) (got d c) ≡ finished
+  unfolding opens
+  no-bytes st e =
+      let f : ltb (got d c + length (c .payload)) (header d c .«message_length») ≡ false =
+      le-ltb (got d c + length (c .payload)) (header d c .«message_length») (omega (arith, e))
+      in
+      rw (eq-eqb (header d c .«message_length») 0 e, f)
+
+  -- the reader in the payload
+  abbrev paying : Reader
+  paying = reader MessagePayload (current (formatFor (c .header)) (placeOf (d .rows) (c .id)) (row d c) (stored d c) (left d c)) (unfinished (d .reader .message .id) (got d c))
+
+  opens-payload : (st : Stage) → header d c .«message_length» ≢ 0 → opens (d .«max_chunk_size») (settled st) (got d c) ≡ go paying
+  unfolding opens
+  opens-payload st e = rw (ne-eqb (header d c .«message_length») 0 e)
+
+  lands : length (c .payload) ≡ left d c → landed paying (length (c .payload)) ≡ finished
+  unfolding landed
+  lands e = by-rest (ltb (got d c + length (c .payload)) (header d c .«message_length»)) refl
+    where
+      none : left d c - length (c .payload) ≡ 0
+      none = omega (arith, e)
+
+      by-rest : (t : Bool) → ltb (got d c + length (c .payload)) (header d c .«message_length») ≡ t → landed paying (length (c .payload)) ≡ finished
+      by-rest true q = rw (none, q)
+      by-rest false q = rw (none, q)
+
+  -- a chunk of a message that lacks a byte ends within the room
+  abbrev pub Within : Type 0
+  Within = header d c .«message_length» ≢ 0 → (0 < left d c) × (got d c + left d c ≤ d .room)
+
+  -- the payload, from the last byte of the header on
+  fills : (st : Stage) (n : ℕ) (rest : List ℕ) → length (c .payload) ≡ left d c → Within
+      → then (claiming d (c .id)) (opens (d .«max_chunk_size») (settled st) (got d c)) payload n (c .payload ++ rest)
+      ≡ then (claiming d (c .id)) finished (sets payload (got d c) (c .payload)) (n + length (c .payload)) rest
+  unfolding after
+  fills st n rest e w = by-length (eqb (header d c .«message_length») 0) refl
+    where
+      empty : header d c .«message_length» ≡ 0 → length (c .payload) ≡ 0
+      empty q = omega (arith, e, q)
+
+      by-length : (t : Bool) → eqb (header d c .«message_length») 0 ≡ t
+          → then (claiming d (c .id)) (opens (d .«max_chunk_size») (settled st) (got d c)) payload n (c .payload ++ rest)
+          ≡ then (claiming d (c .id)) finished (sets payload (got d c) (c .payload)) (n + length (c .payload)) rest
+      by-length true t =
+          let q = eqb-true (header d c .«message_length») 0 t in
+          let z : c .payload ≡ [] = no-elements (c .payload) (empty q) in
+          rw (no-bytes st q, z, add-zero n)
+      by-length false t =
+          let q = eqb-false (header d c .«message_length») 0 t in
+          let b = w q in
+          (rw (opens-payload st q))
+          ∙ bulk (c .payload) rest (after (claiming d (c .id)) (go paying)) payload n refl (omega (arith, e, b .0)) (omega (arith, e)) (b .1)
+          ∙ (rw (lands e))
+
+  abbrev basicOf : List ℕ
+  basicOf = basicBytes (c .form) (typeOf (formatFor (c .header))) (c .id)
+
+  abbrev headOf : List ℕ
+  headOf = headerBytes (c .header)
+
+  abbrev extendedOf : List ℕ
+  extendedOf = extendedBytes (c .extended)
+
+  parts : (rest : List ℕ) → chunkBytes c ++ rest ≡ basicOf ++ (headOf ++ (extendedOf ++ (c .payload ++ rest)))
+  unfolding chunkBytes
+  parts rest = simp (type-for (c .header), append-assoc)
+
+  parts-length : (n : ℕ) → n + length basicOf + length headOf + length extendedOf + length (c .payload) ≡ n + length (chunkBytes c)
+  unfolding chunkBytes
+  parts-length n = simp (type-for (c .header), length-append) (omega arith)
+
+  -- a chunk is not of a stream without a row, except for type 0
+  abbrev pub Rowed : Type 0
+  Rowed = ltb (find (d .rows) (c .id)) 64 ≡ false → formatFor (c .header) ≡ Full
+
+  -- to the last byte of the header
+  headed-back : (n : ℕ) (rest : List ℕ) → d .reader .stage ≡ Csid → ChunkFits d c → basicRefused d c ≡ 0 → Rowed
+      → Reaches (run (basicOf ++ (headOf ++ (extendedOf ++ rest))) d payload n) (claiming d (c .id))
+      (λ r. whole (d .room) (d .«max_chunk_size») r (says (c .extended) (header d c))) (read Csid) payload (n + length basicOf + length headOf + length extendedOf) rest
+  headed-back n rest s fits k f =
+      let n1 = n + length basicOf in
+      let n2 = n1 + length headOf in
+      let b = basic-read d (d .reader) (formatFor (c .header)) payload n (headOf ++ (extendedOf ++ rest)) (c .form) (c .id) (fits .form) in
+      let h = header-read (claiming d (c .id)) payload (b .stage) (placeOf (d .rows) (c .id)) (row d c) (row d c) 0 (d .reader .message) (c .header) n1 (extendedOf ++ rest) (fits .header-fits) in
+      let x = extended-read (claiming d (c .id)) payload (c .extended) (read Csid) (h .stage) n2 rest (fits .extended) in
+      record {
+        stage = x .stage;
+        reached =
+            ap (λ (e : ChunkDeserializer). run (basicOf ++ (headOf ++ (extendedOf ++ rest))) e payload n) (sym (put-between d s))
+            ∙ b .reached
+            ∙ begins (b .stage) n1 (headOf ++ (extendedOf ++ rest)) k f
+            ∙ h .reached
+            ∙ x .reached;
+      }
+
+  -- a whole chunk that is not refused
+  pub reads-back : (n : ℕ) (rest : List ℕ) → d .reader .stage ≡ Csid → ChunkFits d c → basicRefused d c ≡ 0 → headerRefused d c ≡ 0 → Rowed → Within
+      → run (chunkBytes c ++ rest) d payload n ≡ then (claiming d (c .id)) finished (sets payload (got d c) (c .payload)) (n + length (chunkBytes c)) rest
+  reads-back n rest s fits k j f w =
+      let h = headed-back n (c .payload ++ rest) s fits k f in
+      let n3 = n + length basicOf + length headOf + length extendedOf in
+      (rw (parts rest))
+      ∙ h .reached
+      ∙ (rw (settles (h .stage) j))
+      ∙ fills (h .stage) n3 rest (fits .payload) w
+      ∙ (rw (parts-length n))
+
+  -- a chunk that is refused at the end of its basic header, whatever follows
+  pub refused-basic : (n : ℕ) (rest : List ℕ) → d .reader .stage ≡ Csid → ChunkFits d c → basicRefused d c ≢ 0
+      → Reaches (run (basicOf ++ rest) d payload n) d (λ r. refuse r (basicRefused d c)) (d .reader) payload (n + length basicOf) rest
+  refused-basic n rest s fits k =
+      let b = basic-read d (d .reader) (formatFor (c .header)) payload n rest (c .form) (c .id) (fits .form) in
+      record {
+        stage = b .stage;
+        reached =
+            ap (λ (e : ChunkDeserializer). run (basicOf ++ rest) e payload n) (sym (put-between d s))
+            ∙ b .reached
+            ∙ (rw (← named-refused (d .room) (d .«max_chunk_size») (d .rows) (at (d .reader) (b .stage)) (formatFor (c .header)) (c .id) (find (d .rows) (c .id)) (free (d .rows)) (basicRefused d c) refl refl refl k));
+      }
+
+  -- a chunk that is refused at the end of its header, extended time included, whatever follows
+  pub refused-header : (n : ℕ) (rest : List ℕ) → d .reader .stage ≡ Csid → ChunkFits d c → basicRefused d c ≡ 0 → headerRefused d c ≢ 0 → Rowed
+      → Reaches (run (basicOf ++ (headOf ++ (extendedOf ++ rest))) d payload n) (claiming d (c .id)) (λ r. refuse r (headerRefused d c)) (read Csid) payload
+      (n + length basicOf + length headOf + length extendedOf) rest
+  refused-header n rest s fits k j f =
+      let h = headed-back n rest s fits k f in
+      record { stage = h .stage; reached = h .reached ∙ (rw (settles-not (h .stage) j)) }
