@@ -5,6 +5,11 @@ mod codec;
 mod control_calls;
 mod control_read;
 mod control_write;
+mod dec_calls;
+mod dec_feed;
+mod dec_found;
+mod dec_size;
+mod dec_told;
 mod enc_answers;
 mod enc_calls;
 mod enc_msg;
@@ -35,11 +40,15 @@ const BYTES_LENGTH: usize = 131072;
 // The output that a call writes to: the most that a line may lend.
 const OUTPUT_LENGTH: usize = 131072;
 
+// The payload buffer that the decoder writes to: the most that a line may lend.
+const PAYLOAD_LENGTH: usize = 262144;
+
 // Runs the script on standard input to its end, or to its first bad line.
 pub fn run() {
     let mut input = [0u8; INPUT_LENGTH];
     let mut text = [0u8; TEXT_LENGTH];
     let mut bytes = [0u8; BYTES_LENGTH];
     let mut output = [0u8; OUTPUT_LENGTH];
-    turns::run_all(&mut input, &mut text, &mut bytes, &mut output);
+    let mut payload = [0u8; PAYLOAD_LENGTH];
+    turns::run_all(&mut input, &mut text, &mut bytes, &mut output, &mut payload);
 }

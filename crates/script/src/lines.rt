@@ -4,6 +4,7 @@ use crate::answers::Reply;
 use crate::answers::bad;
 use crate::codec::Codec;
 use crate::control_calls;
+use crate::dec_calls;
 use crate::enc_calls;
 use crate::kept::Kept;
 use crate::output::end_answer;
@@ -46,6 +47,7 @@ fn answer_call(
     filled: usize,
     bytes: &mut [u8],
     output: &mut [u8],
+    payload: &mut [u8],
 ) -> Reply {
     let name = word(line, 0);
     if same(name, b"time") {
@@ -63,6 +65,9 @@ fn answer_call(
     if same(name, b"enc") {
         return enc_calls::answer(codec, line, text, filled, bytes, output);
     }
+    if same(name, b"dec") {
+        return dec_calls::answer(codec, line, text, filled, bytes, payload);
+    }
     bad(codec)
 }
 
@@ -74,6 +79,7 @@ pub fn answer_line(
     text: &mut [u8],
     bytes: &mut [u8],
     output: &mut [u8],
+    payload: &mut [u8],
 ) -> Kept {
     let taken = state.take_line();
     if LONGEST_LINE < line.len() {
@@ -88,7 +94,7 @@ pub fn answer_line(
             codec,
         };
     }
-    let reply = answer_call(codec, line, text, taken.waiting, bytes, output);
+    let reply = answer_call(codec, line, text, taken.waiting, bytes, output, payload);
     let answer = reply.answer;
     let next = reply.codec;
     Kept {

@@ -18,6 +18,9 @@ slice-aggregate-run-all-3 c = sym (length-replicate {A = ℕ} 131072 0)
 slice-aggregate-run-all-4 : tie.Need-slice-aggregate-run-all-4
 slice-aggregate-run-all-4 c = sym (length-replicate {A = ℕ} 131072 0)
 
+slice-aggregate-run-all-5 : tie.Need-slice-aggregate-run-all-5
+slice-aggregate-run-all-5 c = sym (length-replicate {A = ℕ} 262144 0)
+
 run-all-requires : tie.Need-run-all-requires
 run-all-requires c κs = tt
 
@@ -32,5 +35,6 @@ run-spec =
     slice-aggregate-run-all-2
     slice-aggregate-run-all-3
     slice-aggregate-run-all-4
+    slice-aggregate-run-all-5
     run-all-requires
     returns)

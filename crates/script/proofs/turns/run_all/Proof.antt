@@ -6,10 +6,10 @@ use Rattle.script.proofs.turns.run_all.Statement.{statement}
 use Rattle.script.proofs.turns.run_all.Tie as tie
 
 abbrev Inv-loop : tie.InvT-loop
-Inv-loop input₀ text₀ bytes₀ output₀ kept₀ turns₀ input text bytes output kept turns = (length input ≡ length input₀) × (length text ≡ length text₀) × (length bytes ≡ length bytes₀) × (length output ≡ length output₀)
+Inv-loop input₀ text₀ bytes₀ output₀ payload₀ kept₀ turns₀ input text bytes output payload kept turns = (length input ≡ length input₀) × (length text ≡ length text₀) × (length bytes ≡ length bytes₀) × (length output ≡ length output₀) × (length payload ≡ length payload₀)
 
 abbrev μ-loop : tie.MeasureT-loop
-μ-loop input₀ text₀ bytes₀ output₀ kept₀ turns₀ input text bytes output kept turns = turns
+μ-loop input₀ text₀ bytes₀ output₀ payload₀ kept₀ turns₀ input text bytes output payload kept turns = turns
 
 new-requires : tie.Need-new-requires Inv-loop μ-loop
 new-requires c κs = search needs
@@ -35,6 +35,9 @@ same-length-3 c = search needs
 same-length-4 : tie.Need-same-length-4 Inv-loop μ-loop
 same-length-4 c = search needs
 
+same-length-5 : tie.Need-same-length-5 Inv-loop μ-loop
+same-length-5 c = search needs
+
 returns : tie.Need-returns Inv-loop μ-loop
 returns c = search needs
 
@@ -47,9 +50,6 @@ loop-less c = search needs
 loop-again : tie.Need-loop-again Inv-loop μ-loop
 loop-again c = search needs
 
-same-length-5 : tie.Need-same-length-5 Inv-loop μ-loop
-same-length-5 c = search needs
-
 same-length-6 : tie.Need-same-length-6 Inv-loop μ-loop
 same-length-6 c = search needs
 
@@ -58,6 +58,12 @@ same-length-7 c = search needs
 
 same-length-8 : tie.Need-same-length-8 Inv-loop μ-loop
 same-length-8 c = search needs
+
+same-length-9 : tie.Need-same-length-9 Inv-loop μ-loop
+same-length-9 c = search needs
+
+same-length-10 : tie.Need-same-length-10 Inv-loop μ-loop
+same-length-10 c = search needs
 
 returns-2 : tie.Need-returns-2 Inv-loop μ-loop
 returns-2 c = search needs
@@ -76,12 +82,14 @@ run-all-spec =
     same-length-2
     same-length-3
     same-length-4
+    same-length-5
     returns
     sub-turns
     loop-less
     loop-again
-    same-length-5
     same-length-6
     same-length-7
     same-length-8
+    same-length-9
+    same-length-10
     returns-2)
