@@ -2,18 +2,21 @@
 use Prim.Native.Nat.{ℕ, _+_, _-_, _*_, _%_, _≤_, _<_}
 use mathlib.Core.Path.{_≡_, refl, sym, subst, _∙_}
 use mathlib.Core.Logic.{_≢_}
-use mathlib.Core.Bool.{Bool, true, false, cond, not, _&&_}
+use mathlib.Core.Bool.{Bool, true, false, cond, not, _&&_, _||_}
 use mathlib.Core.List.{List, [], _∷_}
 use native.Mathlib.Omega.{arith}
 use lib.Dec.{eqb, ltb, leb}
-use lib.ListN.{length, getD}
-use borrow.Author.Tests.{eq-eqb, eqb-true, eqb-false, ltb-true, ltb-false}
+use lib.ListN.{length, getD, length-replicate, getD-replicate}
+use borrow.Author.Tests.{eq-eqb, eqb-true, eqb-false, lt-ltb, ltb-true, ltb-false}
 use Rattle.fields.specs.Cases.{_when_, first}
 use Rattle.chunk_header.specs.declared.ChunkHeaderFormat.{ChunkHeaderFormat}
 use Rattle.chunk_header.specs.declared.Csid.{Csid}
 use Rattle.chunk_header.specs.declared.Csid.the-variants.{Id, Incomplete}
 use Rattle.chunk_header.specs.Basic.{afterOne, afterZero, csid}
+use Rattle.chunk_header.specs.Table.{formatOf}
 use Rattle.deserializer.specs.declared.ChunkDeserializer.{ChunkDeserializer}
+use Rattle.deserializer.specs.declared.reader.Event.{Event}
+use Rattle.deserializer.specs.declared.reader.Event.the-variants.{Go, Chunk, Message, Refuse}
 use Rattle.deserializer.specs.declared.reader.Reader.{Reader}
 use Rattle.deserializer.specs.declared.reader.Stage.{Stage}
 use Rattle.deserializer.specs.declared.reader.Stage.the-variants.{
@@ -43,6 +46,7 @@ use Rattle.deserializer.specs.Machine.{
   go,
   headed,
   inPayload,
+  known,
   lacks,
   landed,
   lengthed,
@@ -70,7 +74,9 @@ use Rattle.deserializer.specs.Machine.{
 }
 use Rattle.deserializer.specs.Meaning.{basicRefusal, firstRefusal, firstTime, isEmpty, isFull, laterRefusal, maxField}
 use Rattle.deserializer.specs.Rows.{claimed, find, free, putRow, rowAt}
-use Rattle.deserializer.specs.Call.{putAt}
+use Rattle.deserializer.specs.Answer.{refused}
+use Rattle.deserializer.specs.Call.{Outcome, after, end, next, outcome, putAt, run, stepOf, writes}
+use Rattle.deserializer.specs.Told.{between, fresh, made, maxRoom, maxSize, outcome as told-outcome, refused as no-size, sized, taken, told}
 use Rattle.deserializer.proofs.RowLaws.{Alone, Distinct, alone-none, alone-there, distinct-put, find-none, find-tells, id-other, id-put, length-putRow}
 
 -- the basic header is whole: a field of the header comes, or payload
@@ -269,3 +275,179 @@ claims-free format unused inside own n h = by-cases (isFull format) (isEmpty for
     by-cases false empty false false own n h = absurd (omega arith)
     by-cases false empty false true false n h = absurd (omega arith)
     by-cases false empty false true true n h = absurd (n refl refl)
+
+-- a step leaves a sound table
+abbrev Leaves : List ℕ → Stepped → Type 0
+Leaves rows s = Sound (putAt rows (s .place) (s .row)) (s .reader)
+
+-- a reader that waits for more of a basic header asks only for the row of its message
+waits-sound : (rows : List ℕ) (r r′ : Reader) → past (r′ .stage) ≡ false → r′ .message .id ≡ r .message .id → Sound rows r → Sound rows r′
+waits-sound rows r r′ p e s = record {
+  long = s .long;
+  distinct = s .distinct;
+  begun = rw e (s .begun);
+  owns = λ q. absurd (let z : _≡_ {A = ℕ} 0 1 = cc in omega arith);
+}
+
+-- an id that has no row gets the first free one
+claims-sound : (rows : List ℕ) (r : Reader) (format : ChunkHeaderFormat) (id : ℕ) → Sound rows r → id ≢ 0 → 64 ≤ find rows id → free rows < 64
+    → Leaves rows (claims r format id (free rows))
+claims-sound rows r format id s n none h =
+    let p = free rows in
+    let c = claimed id in
+    let l = s .long in
+    let rows′ : Sound (putRow rows p c) (claims r format id p .reader) = record {
+      long = length-putRow rows p c ∙ l;
+      distinct = distinct-put rows p c l h (s .distinct) (alone-none rows id p none);
+      begun = λ m. put-found rows p c (r .message .id) l h (λ e. absurd (m (sym e ∙ find-tells rows 0 h))) (s .begun m);
+      owns = λ q. record { inside = h; own = id-put rows p c l h; used = n };
+    }
+    in
+    rw (lt-ltb p 64 h) rows′
+
+-- the last byte of a basic header
+named-sound : (room size : ℕ) (rows : List ℕ) (r : Reader) (format : ChunkHeaderFormat) (id : ℕ) → Sound rows r → past (r .stage) ≡ false → id ≢ 0
+    → Leaves rows (named room size rows r format id)
+unfolding named
+named-sound room size rows r format id s p n =
+    let inside = not (eqb (r .message .id) 0) in
+    let own = eqb (r .message .id) id in
+    by-cases (ltb (find rows id) 64) refl (basicRefusal format (ltb (find rows id) 64) (ltb (free rows) 64) inside own) refl
+  where
+    by-cases : (u : Bool) → ltb (find rows id) 64 ≡ u → (k : ℕ)
+        → basicRefusal format u (ltb (free rows) 64) (not (eqb (r .message .id) 0)) (eqb (r .message .id) id) ≡ k
+        → Leaves rows (cond (eqb k 0) (cond u (known room size r format (rowAt rows (find rows id)) (find rows id)) (claims r format id (free rows))) (refuse r k))
+    by-cases true f k e = stop (eqb k 0)
+      where
+        at-row : Owns rows (find rows id) (getD rows (6 * find rows id) 0)
+        at-row = let h = ltb-true _ _ f in record { inside = h; own = refl; used = rw (find-tells rows id h) n }
+        stop : (t : Bool) → Leaves rows (cond t (known room size r format (rowAt rows (find rows id)) (find rows id)) (refuse r k))
+        stop true = stays-sound rows _ _ _ (s .long) (s .distinct) at-row (timestamp-stays rows room size (reader (r .stage) (current format (find rows id) (rowAt rows (find rows id)) (rowAt rows (find rows id)) 0) (r .message)) (s .begun))
+        stop false = waits-sound rows r r p refl s
+    by-cases false f k e = stop (eqb k 0) refl
+      where
+        stop : (t : Bool) → eqb k 0 ≡ t → Leaves rows (cond t (claims r format id (free rows)) (refuse r k))
+        stop true z =
+            let none = ltb-false (find rows id) 64 f in
+            let other : not (eqb (r .message .id) 0) ≡ true → eqb (r .message .id) id ≡ true → ⊥ = λ a b. let q = eqb-true (r .message .id) id b in let m : find rows (r .message .id) < 64 = s .begun (rw q n) in let o : find rows id < 64 = rw q at m in omega arith in
+            claims-sound rows r format id s n none (ltb-true _ _ (claims-free format (ltb (free rows) 64) (not (eqb (r .message .id) 0)) (eqb (r .message .id) id) other (e ∙ eqb-true k 0 z)))
+        stop false z = waits-sound rows r r p refl s
+
+-- a byte of a basic header
+basic-sound : (room size : ℕ) (rows : List ℕ) (r : Reader) (bytes : List ℕ) (kept : Stage) → Sound rows r → past (r .stage) ≡ false → past kept ≡ false
+    → Leaves rows (basic room size rows r bytes kept)
+basic-sound room size rows r bytes kept s p q =
+    let format = formatOf (getD bytes 0 0) in
+    csid-used (λ c. Leaves rows (basicBy c room size rows r format kept)) bytes (waits-sound rows r (at r kept) q refl s)
+    (λ id n. named-sound room size rows r format id s p n)
+
+-- the chunk that is read has a row
+owned : (rows : List ℕ) (r : Reader) → Owns rows (r .chunk .place) (r .chunk .header .id) → HasRow rows (r .chunk .header .id)
+owned rows r o n = found rows (r .chunk .header .id) (r .chunk .place) (o .inside) (o .own)
+
+-- a byte of a header past its basic header
+field-sound : (stage : Stage) (room size : ℕ) (rows : List ℕ) (r : Reader) (b : ℕ) → past (r .stage) ≡ true → past stage ≡ true → Sound rows r
+    → Leaves rows (stepped stage room size rows r b)
+field-sound stage room size rows r b p q s =
+    stays-sound rows _ _ _ (s .long) (s .distinct) (s .owns p) (field-stays rows stage room size r b q (s .begun))
+
+-- a byte, by the stage
+stepped-sound : (stage : Stage) (room size : ℕ) (rows : List ℕ) (r : Reader) (b : ℕ) → r .stage ≡ stage → Sound rows r → Leaves rows (stepped stage room size rows r b)
+stepped-sound AtCsid room size rows r b e s = basic-sound room size rows r (b ∷ []) (CsidSecond b) s (rw e) refl
+stepped-sound (CsidSecond a) room size rows r b e s = basic-sound room size rows r (a ∷ b ∷ []) (CsidThird a b) s (rw e) refl
+stepped-sound (CsidThird a c) room size rows r b e s = basic-sound room size rows r (a ∷ c ∷ b ∷ []) (CsidThird a c) s (rw e) refl
+stepped-sound (InitialTimestamp before lacks) room size rows r b e s = field-sound (InitialTimestamp before lacks) room size rows r b (rw e) refl s
+stepped-sound (MessageLength before lacks) room size rows r b e s = field-sound (MessageLength before lacks) room size rows r b (rw e) refl s
+stepped-sound MessageTypeId room size rows r b e s = field-sound MessageTypeId room size rows r b (rw e) refl s
+stepped-sound (MessageStreamId before lacks) room size rows r b e s = field-sound (MessageStreamId before lacks) room size rows r b (rw e) refl s
+stepped-sound (ExtendedTimestamp before lacks) room size rows r b e s = field-sound (ExtendedTimestamp before lacks) room size rows r b (rw e) refl s
+stepped-sound MessagePayload room size rows r b e s = field-sound MessagePayload room size rows r b (rw e) refl s
+
+-- what holds of every decoder that calls can make
+abbrev pub Reached : ChunkDeserializer → Type 0
+Reached d = Sound (d .rows) (d .reader)
+
+in-payload-past : (stage : Stage) → inPayload stage ≡ true → past stage ≡ true
+in-payload-past AtCsid e = e
+in-payload-past (CsidSecond a) e = e
+in-payload-past (CsidThird a b) e = e
+in-payload-past (InitialTimestamp before lacks) e = refl
+in-payload-past (MessageLength before lacks) e = refl
+in-payload-past MessageTypeId e = refl
+in-payload-past (MessageStreamId before lacks) e = refl
+in-payload-past (ExtendedTimestamp before lacks) e = refl
+in-payload-past MessagePayload e = refl
+
+-- it is kept by every byte
+pub step-reached : (d : ChunkDeserializer) (b : ℕ) → Reached d → Reached (after d (stepOf d b))
+unfolding after stepOf
+step-reached d b s = by-cases (inPayload (d .reader .stage)) (pays (d .room) (d .reader)) refl
+  where
+    by-cases : (t u : Bool) → inPayload (d .reader .stage) ≡ t
+        → Leaves (d .rows)
+        (cond t (cond u (landed (d .reader) 1) (refuse (d .reader) 255)) (stepped (d .reader .stage) (d .room) (d .«max_chunk_size») (d .rows) (d .reader) b))
+    by-cases true true e =
+        let o = s .owns (in-payload-past (d .reader .stage) e) in
+        stays-sound (d .rows) _ _ _ (s .long) (s .distinct) o (landed-stays (d .rows) (d .reader) 1 (s .begun) (owned (d .rows) (d .reader) o))
+    by-cases true false e = s
+    by-cases false u e = stepped-sound (d .reader .stage) (d .room) (d .«max_chunk_size») (d .rows) (d .reader) b refl s
+
+end-reached : (e : Event) (d : ChunkDeserializer) (payload : List ℕ) (n : ℕ) (o : Outcome) → Reached d → Reached (o .deserializer)
+    → Reached (end e d payload n o .deserializer)
+end-reached Go d payload n o p q = q
+end-reached Chunk d payload n o p q = q
+end-reached Message d payload n o p q = p
+end-reached (Refuse k) d payload n o p q = p
+
+-- by a run
+pub run-reached : (a : List ℕ) (d : ChunkDeserializer) (payload : List ℕ) (n : ℕ) → Reached d → Reached (run a d payload n .deserializer)
+unfolding run
+run-reached [] d payload n s = s
+run-reached (x ∷ a) d payload n s =
+    let d′ = after d (stepOf d x) in
+    let k = step-reached d x s in
+    end-reached (stepOf d x .event) d′ (writes d payload x) (n + 1) _ k (run-reached a d′ (writes d payload x) (n + 1) k)
+
+-- by a call
+pub next-reached : (d : ChunkDeserializer) (input payload : List ℕ) → Reached d → Reached (next d input payload .deserializer)
+unfolding next
+next-reached d input payload s = by-cases (eqb (d .closed) 0) (ltb (length payload) (d .room))
+  where
+    by-cases : (t u : Bool)
+        → Reached (cond (not t) (outcome (refused (d .closed) 0) d payload) (cond u (outcome (refused 7 0) d payload) (run input d payload 0)) .deserializer)
+    by-cases true true = s
+    by-cases true false = run-reached input d payload 0 s
+    by-cases false u = s
+
+-- by a chunk size that is told
+pub told-reached : (d : ChunkDeserializer) (size : ℕ) → Reached d → Reached (told d size .deserializer)
+unfolding told
+told-reached d size s = by-cases (eqb (d .closed) 0) (eqb size 0) (ltb maxSize size) (between (d .reader))
+  where
+    by-cases : (t u v w : Bool)
+        → Reached
+        (first (told-outcome (no-size (d .closed)) d when not t ∷ told-outcome (no-size 3) d when u ∷ told-outcome (no-size 4) d when v
+        ∷ told-outcome (no-size 8) d when not w
+        ∷ []) (told-outcome taken (sized d size)) .deserializer)
+    by-cases false u v w = s
+    by-cases true true v w = s
+    by-cases true false true w = s
+    by-cases true false false false = s
+    by-cases true false false true = s
+
+-- and it holds of a decoder that is made
+fresh-reached : (room closed : ℕ) → Reached (fresh room closed)
+fresh-reached room closed = record {
+  long = length-replicate {A = ℕ} 384 0;
+  distinct = λ i j h k n e. absurd (n (getD-replicate {A = ℕ} 384 (6 * i) 0 0 (omega arith)));
+  begun = λ n. absurd (n refl);
+  owns = λ e. absurd (let z : _≡_ {A = ℕ} 0 1 = cc in omega arith);
+}
+
+pub made-reached : (room : ℕ) → Reached (made room .deserializer)
+unfolding made
+made-reached room = by-cases (eqb room 0 || ltb maxRoom room)
+  where
+    by-cases : (t : Bool) → Reached (cond t (told-outcome (no-size 6) (fresh room 6)) (told-outcome taken (fresh room 0)) .deserializer)
+    by-cases true = fresh-reached room 6
+    by-cases false = fresh-reached room 0
