@@ -1,5 +1,5 @@
 -- What holds of every decoder that calls can make: a row is put only over its own id, or over a free row with an id that no row has, so no id occurs twice.
-use Prim.Native.Nat.{ℕ, _+_, _-_, _*_, _%_, _≤_, _<_}
+use Prim.Native.Nat.{ℕ, _+_, _-_, _*_, _%_, _≤_, _<_, min}
 use mathlib.Core.Path.{_≡_, refl, sym, subst, _∙_}
 use mathlib.Core.Logic.{_≢_}
 use mathlib.Core.Bool.{Bool, true, false, cond, not, _&&_, _||_}
@@ -10,10 +10,11 @@ use lib.ListN.{length, getD, length-replicate, getD-replicate}
 use borrow.Author.Tests.{eq-eqb, eqb-true, eqb-false, lt-ltb, ltb-true, ltb-false}
 use Rattle.fields.specs.Cases.{_when_, first}
 use Rattle.chunk_header.specs.declared.ChunkHeaderFormat.{ChunkHeaderFormat}
+use Rattle.chunk_header.specs.declared.ChunkHeaderFormat.the-variants.{Full, TimeDeltaWithoutMessageStreamId, TimeDeltaOnly, Empty}
 use Rattle.chunk_header.specs.declared.Csid.{Csid}
 use Rattle.chunk_header.specs.declared.Csid.the-variants.{Id, Incomplete}
 use Rattle.chunk_header.specs.Basic.{afterOne, afterZero, csid}
-use Rattle.chunk_header.specs.Table.{formatOf}
+use Rattle.chunk_header.specs.Table.{fieldLength, formatOf, lastType, typeOf}
 use Rattle.deserializer.specs.declared.ChunkDeserializer.{ChunkDeserializer}
 use Rattle.deserializer.specs.declared.reader.Event.{Event}
 use Rattle.deserializer.specs.declared.reader.Event.the-variants.{Go, Chunk, Message, Refuse}
@@ -64,6 +65,7 @@ use Rattle.deserializer.specs.Machine.{
   swapped,
   timed,
   typed,
+  unfinished,
   streamField,
   streamNext,
   timestampField,
@@ -451,3 +453,258 @@ made-reached room = by-cases (eqb room 0 || ltb maxRoom room)
     by-cases : (t : Bool) → Reached (cond t (told-outcome (no-size 6) (fresh room 6)) (told-outcome taken (fresh room 0)) .deserializer)
     by-cases true = fresh-reached room 6
     by-cases false = fresh-reached room 0
+
+-- the fields that a chunk inside a message has only in a full header
+abbrev early : Stage → Bool
+early AtCsid = false
+early (CsidSecond a) = false
+early (CsidThird a b) = false
+early (InitialTimestamp before lacks) = true
+early (MessageLength before lacks) = true
+early MessageTypeId = true
+early (MessageStreamId before lacks) = true
+early (ExtendedTimestamp before lacks) = false
+early MessagePayload = false
+
+-- the length that the row of an id says
+abbrev lengthOf : List ℕ → ℕ → ℕ
+lengthOf rows id = getD rows (6 * find rows id + 3) 0
+
+-- a chunk inside a message of length L: its row says L, and without a full header so does the chunk
+pub record Later (L : ℕ) (r : Reader) : Type 0 where
+  pub before : r .chunk .before .«message_length» ≡ L
+  pub empty : isFull (r .chunk .format) ≡ false → isEmpty (r .chunk .format) ≡ true
+  pub short : isFull (r .chunk .format) ≡ false → r .chunk .header .«message_length» ≡ L
+
+-- payload comes: a byte at least, no more than the message lacks, and the message fits
+pub record Paying (room L : ℕ) (r : Reader) : Type 0 where
+  pub some : 0 < r .chunk .left
+  pub ends : r .message .got + r .chunk .left ≤ r .chunk .header .«message_length»
+  pub fits : r .chunk .header .«message_length» ≤ room
+  pub own : r .message .id ≢ 0 → r .chunk .header .«message_length» ≡ L
+
+-- a reader whose unfinished message, if there is one, has length L
+pub record Fits (room L : ℕ) (r : Reader) : Type 0 where
+  pub got : r .message .id ≢ 0 → r .message .got < L
+  pub room-for : r .message .id ≢ 0 → L ≤ room
+  pub later : past (r .stage) ≡ true → r .message .id ≢ 0 → Later L r
+  pub full : early (r .stage) ≡ true → r .message .id ≢ 0 → isFull (r .chunk .format) ≡ true
+  pub paying : inPayload (r .stage) ≡ true → Paying room L r
+
+-- so is every reader outside a message and a payload
+quiet-fits : (room L : ℕ) (r : Reader) → r .message .id ≡ 0 → inPayload (r .stage) ≡ false → Fits room L r
+quiet-fits room L r e p = record {
+  got = λ n. absurd (n e);
+  room-for = λ n. absurd (n e);
+  later = λ q n. absurd (n e);
+  full = λ q n. absurd (n e);
+  paying = λ q. absurd (let z : _≡_ {A = ℕ} 0 1 = cc in omega arith);
+}
+
+-- the length matters only inside a message
+fits-same : (room L L′ : ℕ) (r : Reader) → (r .message .id ≢ 0 → L ≡ L′) → Fits room L r → Fits room L′ r
+fits-same room L L′ r e f = record {
+  got = λ n. rw (e n) at (f .got n);
+  room-for = λ n. rw (e n) at (f .room-for n);
+  later = λ q n. rw (e n) at (f .later q n);
+  full = f .full;
+  paying = λ q. let p = f .paying q in record { some = p .some; ends = p .ends; fits = p .fits; own = λ n. p .own n ∙ e n };
+}
+
+-- what a step leaves: the length is that of the row it puts, if it puts one
+pub record Fitting (room L m : ℕ) (s : Stepped) : Type 0 where
+  pub fits : Fits room (cond (ltb (s .place) 64) (s .row .«message_length») L) (s .reader)
+  pub same : ltb (s .place) 64 ≡ false → s .reader .message .id ≢ 0 → s .reader .message .id ≡ m
+  pub own : ltb (s .place) 64 ≡ true → s .reader .message .id ≢ 0 → s .reader .message .id ≡ s .row .id
+
+-- a test, with what it tells
+tested : (P : Stepped → Type 0) (t : Bool) {a b : Stepped} → (t ≡ true → P a) → (t ≡ false → P b) → P (cond t a b)
+tested P true p q = p refl
+tested P false p q = q refl
+
+-- a format that has a field, inside a message, is full
+has-field : (format : ChunkHeaderFormat) (field : ℕ) → leb 3 (lastType field) ≡ false → (isFull format ≡ false → isEmpty format ≡ true)
+    → eqb (fieldLength (typeOf format) field) 0 ≡ false
+    → isFull format ≡ true
+unfolding fieldLength
+has-field Full field k h e = refl
+has-field TimeDeltaWithoutMessageStreamId field k h e = absurd (let y = h refl in let z : _≡_ {A = ℕ} 0 1 = cc in omega arith)
+has-field TimeDeltaOnly field k h e = absurd (let y = h refl in let z : _≡_ {A = ℕ} 0 1 = cc in omega arith)
+has-field Empty field k h e = absurd (let z : fieldLength 3 field ≡ 0 = rw k in eqb-false (fieldLength 3 field) 0 e z)
+
+-- a first chunk that is not refused fits
+first-fits : (format : ChunkHeaderFormat) (header : Row) (number room : ℕ) → firstRefusal format header number room ≡ 0 → header .«message_length» ≤ room
+unfolding firstRefusal
+first-fits format header number room h =
+    by-cases (not (isFull format) && (eqb (header .«timestamp_field») maxField && ltb number maxField)) (ltb room (header .«message_length»)) refl h
+  where
+    by-cases : (t u : Bool) → ltb room (header .«message_length») ≡ u → _≡_ {A = ℕ} (first (13 when t ∷ 14 when u ∷ []) 0) 0 → header .«message_length» ≤ room
+    by-cases true u e h = absurd (omega arith)
+    by-cases false true e h = absurd (omega arith)
+    by-cases false false e h = ltb-false _ _ e
+
+-- a full header inside a message that is not refused says the message's length
+later-length : (format : ChunkHeaderFormat) (message header : Row) (number : ℕ) → laterRefusal format message header number ≡ 0 → isFull format ≡ true
+    → header .«message_length» ≡ message .«message_length»
+unfolding laterRefusal
+later-length format message header number h f =
+    by-cases (isFull format) (eqb (header .«message_length») (message .«message_length»)) _ f refl h
+  where
+    by-cases : (t u v : Bool) → t ≡ true → eqb (header .«message_length») (message .«message_length») ≡ u
+        → _≡_ {A = ℕ} (first (12 when (t && not (u && v)) ∷ []) 0) 0
+        → header .«message_length» ≡ message .«message_length»
+    by-cases true true v f e h = eqb-true _ _ e
+    by-cases true false v f e h = absurd (omega arith)
+    by-cases false u v f e h = absurd (let z : _≡_ {A = ℕ} 0 1 = cc in omega arith)
+
+-- so a header inside a message says its length
+says : {L : ℕ} (r : Reader) → Later L r → (isFull (r .chunk .format) ≡ true → r .chunk .header .«message_length» ≡ r .chunk .before .«message_length»)
+    → r .chunk .header .«message_length» ≡ L
+says {L} r l h = by-cases (isFull (r .chunk .format)) refl
+  where
+    by-cases : (t : Bool) → isFull (r .chunk .format) ≡ t → r .chunk .header .«message_length» ≡ L
+    by-cases true e = h e ∙ l .before
+    by-cases false e = l .short e
+
+-- another header of the same length
+later-headed : (L : ℕ) (r : Reader) (h : Row) → h .«message_length» ≡ r .chunk .header .«message_length» → Later L r → Later L (headed r h)
+later-headed L r h e k = record { before = k .before; empty = k .empty; short = λ z. e ∙ k .short z }
+
+fits-headed : (room L : ℕ) (r : Reader) (h : Row) → h .«message_length» ≡ r .chunk .header .«message_length» → Fits room L r → Fits room L (headed r h)
+fits-headed room L r h e f = record {
+  got = f .got;
+  room-for = f .room-for;
+  later = λ q n. later-headed L r h e (f .later q n);
+  full = f .full;
+  paying = λ q. let p = f .paying q in record { some = p .some; ends = rw e (p .ends); fits = rw e (p .fits); own = λ n. e ∙ p .own n };
+}
+
+-- a length that is read, which inside a message only a full header has
+later-lengthed : (L : ℕ) (r : Reader) (x : ℕ) → isFull (r .chunk .format) ≡ true → Later L r → Later L (headed r (lengthed (r .chunk .header) x))
+later-lengthed L r x f k =
+    record { before = k .before; empty = k .empty; short = λ z. absurd (let y : _≡_ {A = ℕ} 0 1 = cc in omega arith) }
+
+fits-lengthed : (room L : ℕ) (r : Reader) (x : ℕ) → (r .message .id ≢ 0 → isFull (r .chunk .format) ≡ true) → inPayload (r .stage) ≡ false → Fits room L r
+    → Fits room L (headed r (lengthed (r .chunk .header) x))
+fits-lengthed room L r x full p f = record {
+  got = f .got;
+  room-for = f .room-for;
+  later = λ q n. later-lengthed L r x (full n) (f .later q n);
+  full = f .full;
+  paying = λ q. absurd (let y : _≡_ {A = ℕ} 0 1 = cc in omega arith);
+}
+
+-- the same reader at another stage
+fits-at : (room L : ℕ) (r : Reader) (stage : Stage) → (past stage ≡ true → r .message .id ≢ 0 → Later L r)
+    → (early stage ≡ true → r .message .id ≢ 0 → isFull (r .chunk .format) ≡ true)
+    → inPayload stage ≡ false
+    → Fits room L r
+    → Fits room L (at r stage)
+fits-at room L r stage later full p f = record {
+  got = f .got;
+  room-for = f .room-for;
+  later = λ q n. let k = later q n in record { before = k .before; empty = k .empty; short = k .short };
+  full = full;
+  paying = λ q. absurd (let y : _≡_ {A = ℕ} 0 1 = cc in omega arith);
+}
+
+module _ (room size L : ℕ) (some : 0 < size) where
+  go-fits : (r : Reader) → Fits room L r → Fitting room L (r .message .id) (go r)
+  go-fits r f = record { fits = f; same = λ e n. refl; own = λ e n. absurd (let z : _≡_ {A = ℕ} 0 1 = cc in omega arith) }
+
+  refuse-fits : (r : Reader) (k : ℕ) → Fits room L r → Fitting room L (r .message .id) (refuse r k)
+  refuse-fits r k f = record { fits = f; same = λ e n. refl; own = λ e n. absurd (let z : _≡_ {A = ℕ} 0 1 = cc in omega arith) }
+
+  ended-fits : (r : Reader) (m : ℕ) → Fitting room L m (ended r)
+  ended-fits r m = record { fits = quiet-fits room _ _ refl refl; same = λ e n. absurd (n refl); own = λ e n. absurd (n refl) }
+
+  -- a payload opens
+  opens-fits : (r : Reader) (got : ℕ) → r .chunk .header .«message_length» ≤ room → (r .chunk .header .«message_length» ≢ 0 → got < r .chunk .header .«message_length»)
+      → (r .message .id ≢ 0 → r .chunk .header .«message_length» ≡ L) → (r .message .id ≢ 0 → Later L r)
+      → Fitting room L (r .message .id) (opens size r got)
+  unfolding opens
+  opens-fits r got h g own later =
+      let c = r .chunk in
+      tested (Fitting room L (r .message .id)) (eqb (c .header .«message_length») 0) (λ e. ended-fits r (r .message .id))
+      (λ e.
+        let lacks = g (eqb-false _ _ e) in
+        let r′ = reader MessagePayload (current (c .format) (c .place) (c .before) (c .header) (min size (c .header .«message_length» - got))) (unfinished (r .message .id) got) in
+        go-fits r′ (record {
+          got = λ n. rw (own n) at lacks;
+          room-for = λ n. rw (own n) at h;
+          later = λ q n. let k = later n in record { before = k .before; empty = k .empty; short = k .short };
+          full = λ q n. absurd (let z : _≡_ {A = ℕ} 0 1 = cc in omega arith);
+          paying = λ q. record { some = omega arith; ends = omega arith; fits = h; own = own };
+        }))
+
+  whole-fits : (r : Reader) (time : ℕ) → Fits room L r → (r .message .id ≢ 0 → Later L r) → Fitting room L (r .message .id) (whole room size r time)
+  unfolding whole
+  whole-fits r time f later =
+      let c = r .chunk in
+      let k = firstRefusal (c .format) (c .header) time room in
+      let j = laterRefusal (c .format) (c .before) (c .header) time in
+      let P = Fitting room L (r .message .id) in
+      tested P (eqb (r .message .id) 0)
+      (λ e.
+        let none = eqb-true (r .message .id) 0 e in
+        tested P (eqb k 0)
+        (λ z.
+          opens-fits (headed r (timed (c .header) (firstTime (c .format) (c .before .timestamp .value) time))) 0
+          (first-fits (c .format) (c .header) time room (eqb-true k 0 z))
+          (λ n. omega arith)
+          (λ n. absurd (n none))
+          (λ n. absurd (n none)))
+        (λ z. refuse-fits r k f))
+      (λ e.
+        let n = eqb-false (r .message .id) 0 e in
+        let l = later n in
+        tested P (eqb j 0)
+        (λ z.
+          let own = says r l (later-length (c .format) (c .before) (c .header) time (eqb-true j 0 z)) in
+          let got = f .got n in
+          let fit = f .room-for n in
+          opens-fits (headed r (timed (c .header) (c .before .timestamp .value))) (r .message .got)
+          (omega arith)
+          (λ m. omega arith)
+          (λ m. own)
+          (λ m. later-headed L r (timed (c .header) (c .before .timestamp .value)) refl l))
+        (λ z. refuse-fits r j f))
+
+  extended-fits : (r : Reader) → Fits room L r → (r .message .id ≢ 0 → Later L r) → Fitting room L (r .message .id) (extendedNext room size r)
+  unfolding extendedNext
+  extended-fits r f later =
+      tested (Fitting room L (r .message .id)) (eqb (r .chunk .header .«timestamp_field») maxField)
+      (λ e.
+        go-fits (at r (ExtendedTimestamp 0 4))
+        (fits-at room L r (ExtendedTimestamp 0 4) (λ q. later) (λ q n. absurd (let z : _≡_ {A = ℕ} 0 1 = cc in omega arith)) refl f))
+      (λ e. whole-fits r (r .chunk .header .«timestamp_field») f later)
+
+  -- a field that the format has comes next
+  field-fits : (r : Reader) (stage : Stage) (field : ℕ) → leb 3 (lastType field) ≡ false → inPayload stage ≡ false → eqb (lacks r field) 0 ≡ false → Fits room L r
+      → (r .message .id ≢ 0 → Later L r)
+      → Fitting room L (r .message .id) (go (at r stage))
+  field-fits r stage field k p e f later =
+      go-fits (at r stage) (fits-at room L r stage (λ q. later) (λ q n. has-field (r .chunk .format) field k (later n .empty) e) p f)
+
+  stream-fits : (r : Reader) → Fits room L r → (r .message .id ≢ 0 → Later L r) → Fitting room L (r .message .id) (streamNext room size r)
+  unfolding streamNext
+  stream-fits r f later =
+      tested (Fitting room L (r .message .id)) (eqb (lacks r 3) 0) (λ e. extended-fits r f later)
+      (λ e. field-fits r (MessageStreamId 0 (lacks r 3)) 3 refl refl e f later)
+
+  type-fits : (r : Reader) → Fits room L r → (r .message .id ≢ 0 → Later L r) → Fitting room L (r .message .id) (typeNext room size r)
+  unfolding typeNext
+  type-fits r f later =
+      tested (Fitting room L (r .message .id)) (eqb (lacks r 2) 0) (λ e. stream-fits r f later) (λ e. field-fits r MessageTypeId 2 refl refl e f later)
+
+  length-fits : (r : Reader) → Fits room L r → (r .message .id ≢ 0 → Later L r) → Fitting room L (r .message .id) (lengthNext room size r)
+  unfolding lengthNext
+  length-fits r f later =
+      tested (Fitting room L (r .message .id)) (eqb (lacks r 1) 0) (λ e. type-fits r f later)
+      (λ e. field-fits r (MessageLength 0 (lacks r 1)) 1 refl refl e f later)
+
+  timestamp-fits : (r : Reader) → Fits room L r → (r .message .id ≢ 0 → Later L r) → Fitting room L (r .message .id) (timestampNext room size r)
+  unfolding timestampNext
+  timestamp-fits r f later =
+      tested (Fitting room L (r .message .id)) (eqb (lacks r 0) 0) (λ e. length-fits r f later)
+      (λ e. field-fits r (InitialTimestamp 0 (lacks r 0)) 0 refl refl e f later)
