@@ -7,7 +7,7 @@ use mathlib.Core.List.{List, [], _∷_}
 use native.Mathlib.Omega.{arith}
 use lib.Dec.{eqb, ltb, leb}
 use lib.ListN.{length, getD, length-replicate, getD-replicate}
-use borrow.Author.Tests.{eq-eqb, eqb-true, eqb-false, lt-ltb, ltb-true, ltb-false}
+use borrow.Author.Tests.{ne-eqb, eqb-true, eqb-false, lt-ltb, ltb-true, ltb-false}
 use Rattle.fields.specs.Cases.{_when_, first}
 use Rattle.chunk_header.specs.declared.ChunkHeaderFormat.{ChunkHeaderFormat}
 use Rattle.chunk_header.specs.declared.ChunkHeaderFormat.the-variants.{Full, TimeDeltaWithoutMessageStreamId, TimeDeltaOnly, Empty}
@@ -79,7 +79,7 @@ use Rattle.deserializer.specs.Rows.{claimed, find, free, putRow, rowAt}
 use Rattle.deserializer.specs.Answer.{refused}
 use Rattle.deserializer.specs.Call.{Outcome, after, end, next, outcome, putAt, run, stepOf, writes}
 use Rattle.deserializer.specs.Told.{between, fresh, made, maxRoom, maxSize, outcome as told-outcome, refused as no-size, sized, taken, told}
-use Rattle.deserializer.proofs.RowLaws.{Alone, Distinct, alone-none, alone-there, distinct-put, find-none, find-tells, id-other, id-put, length-putRow}
+use Rattle.deserializer.proofs.RowLaws.{Alone, Distinct, alone-none, alone-there, distinct-put, find-none, find-tells, id-other, id-put, length-putRow, put-number}
 
 -- the basic header is whole: a field of the header comes, or payload
 abbrev pub past : Stage → Bool
@@ -708,3 +708,230 @@ module _ (room size L : ℕ) (some : 0 < size) where
   timestamp-fits r f later =
       tested (Fitting room L (r .message .id)) (eqb (lacks r 0) 0) (λ e. length-fits r f later)
       (λ e. field-fits r (InitialTimestamp 0 (lacks r 0)) 0 refl refl e f later)
+
+  -- a byte of payload
+  paused-fits : (r : Reader) (got m : ℕ) → r .chunk .place < 64 → got < r .chunk .header .«message_length» → r .chunk .header .«message_length» ≤ room
+      → Fitting room L m (paused r got)
+  paused-fits r got m h g k =
+      let e = lt-ltb (r .chunk .place) 64 h in
+      let f : Fits room (r .chunk .header .«message_length») (paused r got .reader) = record {
+        got = λ n. g;
+        room-for = λ n. k;
+        later = λ q n. absurd (let z : _≡_ {A = ℕ} 0 1 = cc in omega arith);
+        full = λ q n. absurd (let z : _≡_ {A = ℕ} 0 1 = cc in omega arith);
+        paying = λ q. absurd (let z : _≡_ {A = ℕ} 0 1 = cc in omega arith);
+      }
+      in
+      record { fits = rw e f; same = λ z n. absurd (let y : _≡_ {A = ℕ} 0 1 = cc in omega arith); own = λ z n. refl }
+
+  landed-fits : (r : Reader) → r .chunk .place < 64 → inPayload (r .stage) ≡ true → Fits room L r → Fitting room L (r .message .id) (landed r 1)
+  unfolding landed
+  landed-fits r h p f =
+      let P = Fitting room L (r .message .id) in
+      let r′ = paid r (r .message .got + 1) (r .chunk .left - 1) in
+      let k = f .paying p in
+      let ends = k .ends in
+      let fits = k .fits in
+      tested P (eqb (r .chunk .left - 1) 0)
+      (λ e.
+        tested P (ltb (r .message .got + 1) (r .chunk .header .«message_length»))
+        (λ z. paused-fits r′ (r .message .got + 1) (r .message .id) h (ltb-true _ _ z) fits)
+        (λ z. ended-fits r′ (r .message .id)))
+      (λ e.
+        let left = eqb-false (r .chunk .left - 1) 0 e in
+        go-fits r′ (record {
+          got = λ n. let own = k .own n in omega arith;
+          room-for = f .room-for;
+          later = λ q n. let l = f .later (in-payload-past (r .stage) p) n in record { before = l .before; empty = l .empty; short = l .short };
+          full = λ q n. absurd (let z : _≡_ {A = ℕ} 0 1 = cc in omega arith);
+          paying = λ q. record { some = omega arith; ends = omega arith; fits = fits; own = k .own };
+        }))
+
+  -- a byte of a header past its basic header
+  byte-fits : (stage : Stage) (rows : List ℕ) (r : Reader) (b : ℕ) → r .stage ≡ stage → past stage ≡ true → Fits room L r
+      → Fitting room L (r .message .id) (stepped stage room size rows r b)
+  unfolding timestampField lengthField typeField streamField extendedField
+  byte-fits AtCsid rows r b e p f = absurd (let z : _≡_ {A = ℕ} 0 1 = cc in omega arith)
+  byte-fits (CsidSecond a) rows r b e p f = absurd (let z : _≡_ {A = ℕ} 0 1 = cc in omega arith)
+  byte-fits (CsidThird a c) rows r b e p f = absurd (let z : _≡_ {A = ℕ} 0 1 = cc in omega arith)
+  byte-fits (InitialTimestamp before lacks) rows r b e p f =
+      let n = gathered before b in
+      let later = f .later (rw e) in
+      let h = fielded (r .chunk .header) n in
+      tested (Fitting room L (r .message .id)) (leb lacks 1) (λ z. length-fits (headed r h) (fits-headed room L r h refl f) (λ m. later-headed L r h refl (later m)))
+      (λ z.
+        go-fits (at r (InitialTimestamp n (lacks - 1)))
+        (fits-at room L r (InitialTimestamp n (lacks - 1)) (λ q. later) (λ q. f .full (rw e)) refl f))
+  byte-fits (MessageLength before lacks) rows r b e p f =
+      let n = gathered before b in
+      let later = f .later (rw e) in
+      let full = f .full (rw e) in
+      tested (Fitting room L (r .message .id)) (leb lacks 1)
+      (λ z.
+        type-fits (headed r (lengthed (r .chunk .header) n)) (fits-lengthed room L r n full (rw e) f) (λ m. later-lengthed L r n (full m) (later m)))
+      (λ z. go-fits (at r (MessageLength n (lacks - 1))) (fits-at room L r (MessageLength n (lacks - 1)) (λ q. later) (λ q. full) refl f))
+  byte-fits MessageTypeId rows r b e p f =
+      let h = typed (r .chunk .header) b in
+      stream-fits (headed r h) (fits-headed room L r h refl f) (λ m. later-headed L r h refl (f .later (rw e) m))
+  byte-fits (MessageStreamId before lacks) rows r b e p f =
+      let n = gathered before b in
+      let later = f .later (rw e) in
+      let h = streamed (r .chunk .header) (swapped n) in
+      tested (Fitting room L (r .message .id)) (leb lacks 1)
+      (λ z. extended-fits (headed r h) (fits-headed room L r h refl f) (λ m. later-headed L r h refl (later m)))
+      (λ z.
+        go-fits (at r (MessageStreamId n (lacks - 1))) (fits-at room L r (MessageStreamId n (lacks - 1)) (λ q. later) (λ q. f .full (rw e)) refl f))
+  byte-fits (ExtendedTimestamp before lacks) rows r b e p f =
+      let n = gathered before b in
+      let later = f .later (rw e) in
+      tested (Fitting room L (r .message .id)) (leb lacks 1) (λ z. whole-fits r n f later)
+      (λ z.
+        go-fits (at r (ExtendedTimestamp n (lacks - 1)))
+        (fits-at room L r (ExtendedTimestamp n (lacks - 1)) (λ q. later) (λ q n. absurd (let y : _≡_ {A = ℕ} 0 1 = cc in omega arith)) refl f))
+  byte-fits MessagePayload rows r b e p f = refuse-fits r 255 f
+
+-- a stage before the end of the basic header is neither of a field nor of payload
+early-past : (stage : Stage) → past stage ≡ false → early stage ≡ true → ⊥
+early-past AtCsid p e = let z : _≡_ {A = ℕ} 0 1 = cc in omega arith
+early-past (CsidSecond a) p e = let z : _≡_ {A = ℕ} 0 1 = cc in omega arith
+early-past (CsidThird a b) p e = let z : _≡_ {A = ℕ} 0 1 = cc in omega arith
+early-past (InitialTimestamp before lacks) p e = let z : _≡_ {A = ℕ} 0 1 = cc in omega arith
+early-past (MessageLength before lacks) p e = let z : _≡_ {A = ℕ} 0 1 = cc in omega arith
+early-past MessageTypeId p e = let z : _≡_ {A = ℕ} 0 1 = cc in omega arith
+early-past (MessageStreamId before lacks) p e = let z : _≡_ {A = ℕ} 0 1 = cc in omega arith
+early-past (ExtendedTimestamp before lacks) p e = let z : _≡_ {A = ℕ} 0 1 = cc in omega arith
+early-past MessagePayload p e = let z : _≡_ {A = ℕ} 0 1 = cc in omega arith
+
+payload-past : (stage : Stage) → past stage ≡ false → inPayload stage ≡ true → ⊥
+payload-past stage p e = let q = in-payload-past stage e in let z : _≡_ {A = ℕ} 0 1 = cc in omega arith
+
+not-not : (m : ℕ) → (m ≢ 0 → ⊥) → m ≡ 0
+not-not m h = by-cases (eqb m 0) refl
+  where
+    by-cases : (t : Bool) → eqb m 0 ≡ t → m ≡ 0
+    by-cases true e = eqb-true m 0 e
+    by-cases false e = absurd (h (eqb-false m 0 e))
+
+-- inside a message a basic header that is not refused is of its own stream, and full or empty
+inside-tells : (format : ChunkHeaderFormat) (has-row unused own : Bool) → basicRefusal format has-row unused true own ≡ 0
+    → (own ≡ true) × (isFull format ≡ false → isEmpty format ≡ true)
+unfolding basicRefusal
+inside-tells format has-row unused own h = by-cases (isFull format) (isEmpty format) (not has-row && not unused) own h
+  where
+    by-cases : (full empty lacking own : Bool)
+        → _≡_ {A = ℕ} (first (10 when (full && lacking) ∷ 11 when not own ∷ 12 when (not full && not empty) ∷ []) 0) 0
+        → (own ≡ true) × (full ≡ false → empty ≡ true)
+    by-cases true empty true own h = absurd (omega arith)
+    by-cases true empty false true h = (refl, λ z. absurd (let y : _≡_ {A = ℕ} 0 1 = cc in omega arith))
+    by-cases true empty false false h = absurd (omega arith)
+    by-cases false true lacking true h = (refl, λ z. refl)
+    by-cases false false lacking true h = absurd (omega arith)
+    by-cases false empty lacking false h = absurd (omega arith)
+
+-- the last byte of a basic header
+named-fits : (room size : ℕ) (rows : List ℕ) (r : Reader) (format : ChunkHeaderFormat) (id : ℕ) → 0 < size → id ≢ 0 → past (r .stage) ≡ false → Sound rows r
+    → Fits room (lengthOf rows (r .message .id)) r
+    → Fitting room (lengthOf rows (r .message .id)) (r .message .id) (named room size rows r format id)
+unfolding named
+named-fits room size rows r format id some n p s f =
+    by-cases (ltb (find rows id) 64) refl
+    (basicRefusal format (ltb (find rows id) 64) (ltb (free rows) 64) (not (eqb (r .message .id) 0)) (eqb (r .message .id) id)) refl
+  where
+    tells : (u : Bool) → basicRefusal format u (ltb (free rows) 64) (not (eqb (r .message .id) 0)) (eqb (r .message .id) id) ≡ 0 → r .message .id ≢ 0
+        → (r .message .id ≡ id) × (isFull format ≡ false → isEmpty format ≡ true)
+    tells u e m =
+        let k = inside-tells format u (ltb (free rows) 64) (eqb (r .message .id) id) (rw (ne-eqb (r .message .id) 0 m) at e) in
+        (eqb-true _ _ (k .0), k .1)
+    by-cases : (u : Bool) → ltb (find rows id) 64 ≡ u → (k : ℕ)
+        → basicRefusal format u (ltb (free rows) 64) (not (eqb (r .message .id) 0)) (eqb (r .message .id) id) ≡ k
+        → Fitting room (lengthOf rows (r .message .id)) (r .message .id)
+        (cond (eqb k 0) (cond u (known room size r format (rowAt rows (find rows id)) (find rows id)) (claims r format id (free rows))) (refuse r k))
+    by-cases true g k e =
+        tested (Fitting room (lengthOf rows (r .message .id)) (r .message .id)) (eqb k 0)
+        (λ z.
+          let row = rowAt rows (find rows id) in
+          let r′ = reader (r .stage) (current format (find rows id) row row 0) (r .message) in
+          let later : r .message .id ≢ 0 → Later (lengthOf rows (r .message .id)) r′ = λ m.
+          let t = tells true (e ∙ eqb-true k 0 z) m in
+          let same : getD rows (6 * find rows id + 3) 0 ≡ lengthOf rows (r .message .id) = rw (t .0) in
+          record { before = same; empty = t .1; short = λ y. same }
+          in
+          timestamp-fits room size (lengthOf rows (r .message .id)) some r′
+          (record { got = f .got; room-for = f .room-for; later = λ q. later; full = λ q m. absurd (early-past (r .stage) p q); paying = λ q. absurd (payload-past (r .stage) p q) })
+          later)
+        (λ z. refuse-fits room size (lengthOf rows (r .message .id)) some r k f)
+    by-cases false g k e =
+        tested (Fitting room (lengthOf rows (r .message .id)) (r .message .id)) (eqb k 0)
+        (λ z.
+          let none = ltb-false (find rows id) 64 g in
+          let outside : r .message .id ≢ 0 → ⊥ = λ m.
+          let t = tells false (e ∙ eqb-true k 0 z) m in
+          let has = s .begun m in
+          let has′ : find rows id < 64 = rw (t .0) at has in
+          omega arith
+          in
+          record {
+            fits = quiet-fits room _ _ (not-not (r .message .id) outside) refl;
+            same = λ y m. refl;
+            own = λ y m. absurd (outside m);
+          })
+        (λ z. refuse-fits room size (lengthOf rows (r .message .id)) some r k f)
+
+-- the row of an id is where it is found
+find-distinct : (rows : List ℕ) (id p : ℕ) → Distinct rows → p < 64 → id ≢ 0 → getD rows (6 * p) 0 ≡ id → find rows id ≡ p
+find-distinct rows id p d h n e =
+    let f = found rows id p h e in
+    let q = find-tells rows id f in
+    d (find rows id) p f h (rw q n) (q ∙ sym e)
+
+-- so the length that a step leaves is the one in the table
+fitting-fits : (room : ℕ) (rows : List ℕ) (m : ℕ) (s : Stepped) → length rows ≡ 384 → Leaves rows s → Fitting room (lengthOf rows m) m s
+    → Fits room (lengthOf (putAt rows (s .place) (s .row)) (s .reader .message .id)) (s .reader)
+fitting-fits room rows m s l = by-cases (ltb (s .place) 64) refl
+  where
+    by-cases : (t : Bool) → ltb (s .place) 64 ≡ t → Leaves rows s → Fitting room (lengthOf rows m) m s
+        → Fits room (lengthOf (putAt rows (s .place) (s .row)) (s .reader .message .id)) (s .reader)
+    by-cases true e k f =
+        let h = ltb-true (s .place) 64 e in
+        let rows′ = putRow rows (s .place) (s .row) in
+        let d : Distinct rows′ = rw e at (k .distinct) in
+        let g : Fits room (s .row .«message_length») (s .reader) = rw e at (f .fits) in
+        rw e (fits-same room (s .row .«message_length») (lengthOf rows′ (s .reader .message .id)) (s .reader)
+        (λ n.
+          let own = f .own e n in
+          let at-place : find rows′ (s .reader .message .id) ≡ s .place = find-distinct rows′ (s .reader .message .id) (s .place) d h n (id-put rows (s .place) (s .row) l h ∙ sym own) in
+          rw at-place (sym (put-number rows (s .place) 3 (s .row) l h (omega arith)))) g)
+    by-cases false e k f =
+        let g : Fits room (lengthOf rows m) (s .reader) = rw e at (f .fits) in
+        rw e (fits-same room (lengthOf rows m) (lengthOf rows (s .reader .message .id)) (s .reader) (λ n. rw (f .same e n)) g)
+
+-- a byte of a basic header
+basic-fits : (room size : ℕ) (rows : List ℕ) (r : Reader) (bytes : List ℕ) (kept : Stage) → past (r .stage) ≡ false → past kept ≡ false → 0 < size → Sound rows r
+    → Fits room (lengthOf rows (r .message .id)) r
+    → Fitting room (lengthOf rows (r .message .id)) (r .message .id) (basic room size rows r bytes kept)
+basic-fits room size rows r bytes kept p q some s f =
+    let L = lengthOf rows (r .message .id) in
+    let format = formatOf (getD bytes 0 0) in
+    csid-used (λ c. Fitting room (lengthOf rows (r .message .id)) (r .message .id) (basicBy c room size rows r format kept)) bytes
+    (go-fits room size L some (at r kept) (record {
+      got = f .got;
+      room-for = f .room-for;
+      later = λ z n. absurd (let y : _≡_ {A = ℕ} 0 1 = cc in omega arith);
+      full = λ z n. absurd (early-past kept q z);
+      paying = λ z. absurd (payload-past kept q z);
+    }))
+    (λ id n. named-fits room size rows r format id some n p s f)
+
+-- a byte, by the stage
+stepped-fits : (stage : Stage) (room size : ℕ) (rows : List ℕ) (r : Reader) (b : ℕ) → r .stage ≡ stage → 0 < size → Sound rows r
+    → Fits room (lengthOf rows (r .message .id)) r
+    → Fitting room (lengthOf rows (r .message .id)) (r .message .id) (stepped stage room size rows r b)
+stepped-fits AtCsid room size rows r b e some s f = basic-fits room size rows r (b ∷ []) (CsidSecond b) (rw e) refl some s f
+stepped-fits (CsidSecond a) room size rows r b e some s f = basic-fits room size rows r (a ∷ b ∷ []) (CsidThird a b) (rw e) refl some s f
+stepped-fits (CsidThird a c) room size rows r b e some s f = basic-fits room size rows r (a ∷ c ∷ b ∷ []) (CsidThird a c) (rw e) refl some s f
+stepped-fits (InitialTimestamp before lacks) room size rows r b e some s f = byte-fits room size _ some (InitialTimestamp before lacks) rows r b e refl f
+stepped-fits (MessageLength before lacks) room size rows r b e some s f = byte-fits room size _ some (MessageLength before lacks) rows r b e refl f
+stepped-fits MessageTypeId room size rows r b e some s f = byte-fits room size _ some MessageTypeId rows r b e refl f
+stepped-fits (MessageStreamId before lacks) room size rows r b e some s f = byte-fits room size _ some (MessageStreamId before lacks) rows r b e refl f
+stepped-fits (ExtendedTimestamp before lacks) room size rows r b e some s f = byte-fits room size _ some (ExtendedTimestamp before lacks) rows r b e refl f
+stepped-fits MessagePayload room size rows r b e some s f = byte-fits room size _ some MessagePayload rows r b e refl f

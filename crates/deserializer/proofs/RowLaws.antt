@@ -42,12 +42,12 @@ unfolding putRow
 length-putRow rows i r = length-sets rows (6 * i) (numbers r)
 
 -- the numbers of the row that was put
-put-number : (rows : List ℕ) (i k : ℕ) (r : Row) → length rows ≡ 384 → i < 64 → k < 6 → getD (putRow rows i r) (6 * i + k) 0 ≡ getD (numbers r) k 0
+pub put-number : (rows : List ℕ) (i k : ℕ) (r : Row) → length rows ≡ 384 → i < 64 → k < 6 → getD (putRow rows i r) (6 * i + k) 0 ≡ getD (numbers r) k 0
 unfolding putRow
 put-number rows i k r l h f = getD-in (numbers r) rows (6 * i) k f (omega arith)
 
 -- the numbers of another row
-other-number : (rows : List ℕ) (i j k : ℕ) (r : Row) → i ≢ j → k < 6 → getD (putRow rows i r) (6 * j + k) 0 ≡ getD rows (6 * j + k) 0
+pub other-number : (rows : List ℕ) (i j k : ℕ) (r : Row) → i ≢ j → k < 6 → getD (putRow rows i r) (6 * j + k) 0 ≡ getD rows (6 * j + k) 0
 unfolding putRow
 other-number rows i j k r n f = by-cases (ltb j i) refl
   where
