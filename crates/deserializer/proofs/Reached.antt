@@ -79,6 +79,7 @@ use Rattle.deserializer.specs.Rows.{claimed, find, free, putRow, rowAt}
 use Rattle.deserializer.specs.Answer.{refused}
 use Rattle.deserializer.specs.Call.{Outcome, after, end, next, outcome, putAt, run, stepOf, writes}
 use Rattle.deserializer.specs.Told.{between, fresh, made, maxRoom, maxSize, outcome as told-outcome, refused as no-size, sized, taken, told}
+use Rattle.deserializer.proofs.Runs.{pays-is}
 use Rattle.deserializer.proofs.RowLaws.{Alone, Distinct, alone-none, alone-there, distinct-put, find-none, find-tells, id-other, id-put, length-putRow, put-number}
 
 -- the basic header is whole: a field of the header comes, or payload
@@ -189,8 +190,8 @@ module _ (rows : List ℕ) where
   landed-stays : (r : Reader) (n : ℕ) → HasRow rows (r .message .id) → HasRow rows (r .chunk .header .id) → StaysAt rows r (landed r n)
   unfolding landed
   landed-stays r n h o = either rows _ _ (eqb (r .chunk .left - n) 0)
-    (either rows _ _ (ltb (r .message .got + n) (r .chunk .header .«message_length»)) (paused-stays (paid r (r .message .got + n) (r .chunk .left - n)) (r .message .got + n) o) (ended-stays (paid r (r .message .got + n) (r .chunk .left - n))))
-    (go-stays (paid r (r .message .got + n) (r .chunk .left - n)) h)
+      (either rows _ _ (ltb (r .message .got + n) (r .chunk .header .«message_length»)) (paused-stays (paid r (r .message .got + n) (r .chunk .left - n)) (r .message .got + n) o) (ended-stays (paid r (r .message .got + n) (r .chunk .left - n))))
+      (go-stays (paid r (r .message .got + n) (r .chunk .left - n)) h)
 
   opens-stays : (size : ℕ) (r : Reader) (got : ℕ) → HasRow rows (r .message .id) → StaysAt rows r (opens size r got)
   unfolding opens
@@ -199,17 +200,17 @@ module _ (rows : List ℕ) where
   whole-stays : (room size : ℕ) (r : Reader) (time : ℕ) → HasRow rows (r .message .id) → StaysAt rows r (whole room size r time)
   unfolding whole
   whole-stays room size r time h =
-    let c = r .chunk in
-    let k = firstRefusal (c .format) (c .header) time room in
-    let j = laterRefusal (c .format) (c .before) (c .header) time in
-    either rows _ _ (eqb (r .message .id) 0)
-    (either rows _ _ (eqb k 0) (opens-stays size (headed r (timed (c .header) (firstTime (c .format) (c .before .timestamp .value) time))) 0 h) (refuse-stays r k h))
-    (either rows _ _ (eqb j 0) (opens-stays size (headed r (timed (c .header) (c .before .timestamp .value))) (r .message .got) h) (refuse-stays r j h))
+      let c = r .chunk in
+      let k = firstRefusal (c .format) (c .header) time room in
+      let j = laterRefusal (c .format) (c .before) (c .header) time in
+      either rows _ _ (eqb (r .message .id) 0)
+      (either rows _ _ (eqb k 0) (opens-stays size (headed r (timed (c .header) (firstTime (c .format) (c .before .timestamp .value) time))) 0 h) (refuse-stays r k h))
+      (either rows _ _ (eqb j 0) (opens-stays size (headed r (timed (c .header) (c .before .timestamp .value))) (r .message .got) h) (refuse-stays r j h))
 
   extended-stays : (room size : ℕ) (r : Reader) → HasRow rows (r .message .id) → StaysAt rows r (extendedNext room size r)
   unfolding extendedNext
   extended-stays room size r h =
-    either rows _ _ (eqb (r .chunk .header .«timestamp_field») maxField) (go-stays (at r (ExtendedTimestamp 0 4)) h) (whole-stays room size r (r .chunk .header .«timestamp_field») h)
+      either rows _ _ (eqb (r .chunk .header .«timestamp_field») maxField) (go-stays (at r (ExtendedTimestamp 0 4)) h) (whole-stays room size r (r .chunk .header .«timestamp_field») h)
 
   stream-stays : (room size : ℕ) (r : Reader) → HasRow rows (r .message .id) → StaysAt rows r (streamNext room size r)
   unfolding streamNext
@@ -234,18 +235,18 @@ module _ (rows : List ℕ) where
   field-stays (CsidSecond a) room size r b p h = absurd (let z : _≡_ {A = ℕ} 0 1 = cc in omega arith)
   field-stays (CsidThird a c) room size r b p h = absurd (let z : _≡_ {A = ℕ} 0 1 = cc in omega arith)
   field-stays (InitialTimestamp before lacks) room size r b p h =
-    let n = gathered before b in
-    either rows _ _ (leb lacks 1) (length-stays room size (headed r (fielded (r .chunk .header) n)) h) (go-stays (at r (InitialTimestamp n (lacks - 1))) h)
+      let n = gathered before b in
+      either rows _ _ (leb lacks 1) (length-stays room size (headed r (fielded (r .chunk .header) n)) h) (go-stays (at r (InitialTimestamp n (lacks - 1))) h)
   field-stays (MessageLength before lacks) room size r b p h =
-    let n = gathered before b in
-    either rows _ _ (leb lacks 1) (type-stays room size (headed r (lengthed (r .chunk .header) n)) h) (go-stays (at r (MessageLength n (lacks - 1))) h)
+      let n = gathered before b in
+      either rows _ _ (leb lacks 1) (type-stays room size (headed r (lengthed (r .chunk .header) n)) h) (go-stays (at r (MessageLength n (lacks - 1))) h)
   field-stays MessageTypeId room size r b p h = stream-stays room size (headed r (typed (r .chunk .header) b)) h
   field-stays (MessageStreamId before lacks) room size r b p h =
-    let n = gathered before b in
-    either rows _ _ (leb lacks 1) (extended-stays room size (headed r (streamed (r .chunk .header) (swapped n))) h) (go-stays (at r (MessageStreamId n (lacks - 1))) h)
+      let n = gathered before b in
+      either rows _ _ (leb lacks 1) (extended-stays room size (headed r (streamed (r .chunk .header) (swapped n))) h) (go-stays (at r (MessageStreamId n (lacks - 1))) h)
   field-stays (ExtendedTimestamp before lacks) room size r b p h =
-    let n = gathered before b in
-    either rows _ _ (leb lacks 1) (whole-stays room size r n h) (go-stays (at r (ExtendedTimestamp n (lacks - 1))) h)
+      let n = gathered before b in
+      either rows _ _ (leb lacks 1) (whole-stays room size r n h) (go-stays (at r (ExtendedTimestamp n (lacks - 1))) h)
   field-stays MessagePayload room size r b p h = refuse-stays r 255 h
 
 -- a basic header that is whole gives an id other than 0
@@ -323,6 +324,7 @@ named-sound room size rows r format id s p n =
       where
         at-row : Owns rows (find rows id) (getD rows (6 * find rows id) 0)
         at-row = let h = ltb-true _ _ f in record { inside = h; own = refl; used = rw (find-tells rows id h) n }
+
         stop : (t : Bool) → Leaves rows (cond t (known room size r format (rowAt rows (find rows id)) (find rows id)) (refuse r k))
         stop true = stays-sound rows _ _ _ (s .long) (s .distinct) at-row (timestamp-stays rows room size (reader (r .stage) (current format (find rows id) (rowAt rows (find rows id)) (rowAt rows (find rows id)) 0) (r .message)) (s .begun))
         stop false = waits-sound rows r r p refl s
@@ -365,10 +367,7 @@ stepped-sound (MessageStreamId before lacks) room size rows r b e s = field-soun
 stepped-sound (ExtendedTimestamp before lacks) room size rows r b e s = field-sound (ExtendedTimestamp before lacks) room size rows r b (rw e) refl s
 stepped-sound MessagePayload room size rows r b e s = field-sound MessagePayload room size rows r b (rw e) refl s
 
--- what holds of every decoder that calls can make
-abbrev pub Reached : ChunkDeserializer → Type 0
-Reached d = Sound (d .rows) (d .reader)
-
+-- a stage of payload is past the basic header
 in-payload-past : (stage : Stage) → inPayload stage ≡ true → past stage ≡ true
 in-payload-past AtCsid e = e
 in-payload-past (CsidSecond a) e = e
@@ -380,10 +379,10 @@ in-payload-past (MessageStreamId before lacks) e = refl
 in-payload-past (ExtendedTimestamp before lacks) e = refl
 in-payload-past MessagePayload e = refl
 
--- it is kept by every byte
-pub step-reached : (d : ChunkDeserializer) (b : ℕ) → Reached d → Reached (after d (stepOf d b))
-unfolding after stepOf
-step-reached d b s = by-cases (inPayload (d .reader .stage)) (pays (d .room) (d .reader)) refl
+-- a byte
+step-sound : (d : ChunkDeserializer) (b : ℕ) → Sound (d .rows) (d .reader) → Leaves (d .rows) (stepOf d b)
+unfolding stepOf
+step-sound d b s = by-cases (inPayload (d .reader .stage)) (pays (d .room) (d .reader)) refl
   where
     by-cases : (t u : Bool) → inPayload (d .reader .stage) ≡ t
         → Leaves (d .rows)
@@ -393,66 +392,6 @@ step-reached d b s = by-cases (inPayload (d .reader .stage)) (pays (d .room) (d 
         stays-sound (d .rows) _ _ _ (s .long) (s .distinct) o (landed-stays (d .rows) (d .reader) 1 (s .begun) (owned (d .rows) (d .reader) o))
     by-cases true false e = s
     by-cases false u e = stepped-sound (d .reader .stage) (d .room) (d .«max_chunk_size») (d .rows) (d .reader) b refl s
-
-end-reached : (e : Event) (d : ChunkDeserializer) (payload : List ℕ) (n : ℕ) (o : Outcome) → Reached d → Reached (o .deserializer)
-    → Reached (end e d payload n o .deserializer)
-end-reached Go d payload n o p q = q
-end-reached Chunk d payload n o p q = q
-end-reached Message d payload n o p q = p
-end-reached (Refuse k) d payload n o p q = p
-
--- by a run
-pub run-reached : (a : List ℕ) (d : ChunkDeserializer) (payload : List ℕ) (n : ℕ) → Reached d → Reached (run a d payload n .deserializer)
-unfolding run
-run-reached [] d payload n s = s
-run-reached (x ∷ a) d payload n s =
-    let d′ = after d (stepOf d x) in
-    let k = step-reached d x s in
-    end-reached (stepOf d x .event) d′ (writes d payload x) (n + 1) _ k (run-reached a d′ (writes d payload x) (n + 1) k)
-
--- by a call
-pub next-reached : (d : ChunkDeserializer) (input payload : List ℕ) → Reached d → Reached (next d input payload .deserializer)
-unfolding next
-next-reached d input payload s = by-cases (eqb (d .closed) 0) (ltb (length payload) (d .room))
-  where
-    by-cases : (t u : Bool)
-        → Reached (cond (not t) (outcome (refused (d .closed) 0) d payload) (cond u (outcome (refused 7 0) d payload) (run input d payload 0)) .deserializer)
-    by-cases true true = s
-    by-cases true false = run-reached input d payload 0 s
-    by-cases false u = s
-
--- by a chunk size that is told
-pub told-reached : (d : ChunkDeserializer) (size : ℕ) → Reached d → Reached (told d size .deserializer)
-unfolding told
-told-reached d size s = by-cases (eqb (d .closed) 0) (eqb size 0) (ltb maxSize size) (between (d .reader))
-  where
-    by-cases : (t u v w : Bool)
-        → Reached
-        (first (told-outcome (no-size (d .closed)) d when not t ∷ told-outcome (no-size 3) d when u ∷ told-outcome (no-size 4) d when v
-        ∷ told-outcome (no-size 8) d when not w
-        ∷ []) (told-outcome taken (sized d size)) .deserializer)
-    by-cases false u v w = s
-    by-cases true true v w = s
-    by-cases true false true w = s
-    by-cases true false false false = s
-    by-cases true false false true = s
-
--- and it holds of a decoder that is made
-fresh-reached : (room closed : ℕ) → Reached (fresh room closed)
-fresh-reached room closed = record {
-  long = length-replicate {A = ℕ} 384 0;
-  distinct = λ i j h k n e. absurd (n (getD-replicate {A = ℕ} 384 (6 * i) 0 0 (omega arith)));
-  begun = λ n. absurd (n refl);
-  owns = λ e. absurd (let z : _≡_ {A = ℕ} 0 1 = cc in omega arith);
-}
-
-pub made-reached : (room : ℕ) → Reached (made room .deserializer)
-unfolding made
-made-reached room = by-cases (eqb room 0 || ltb maxRoom room)
-  where
-    by-cases : (t : Bool) → Reached (cond t (told-outcome (no-size 6) (fresh room 6)) (told-outcome taken (fresh room 0)) .deserializer)
-    by-cases true = fresh-reached room 6
-    by-cases false = fresh-reached room 0
 
 -- the fields that a chunk inside a message has only in a full header
 abbrev early : Stage → Bool
@@ -627,15 +566,15 @@ module _ (room size L : ℕ) (some : 0 < size) where
       let c = r .chunk in
       tested (Fitting room L (r .message .id)) (eqb (c .header .«message_length») 0) (λ e. ended-fits r (r .message .id))
       (λ e.
-        let lacks = g (eqb-false _ _ e) in
-        let r′ = reader MessagePayload (current (c .format) (c .place) (c .before) (c .header) (min size (c .header .«message_length» - got))) (unfinished (r .message .id) got) in
-        go-fits r′ (record {
-          got = λ n. rw (own n) at lacks;
-          room-for = λ n. rw (own n) at h;
-          later = λ q n. let k = later n in record { before = k .before; empty = k .empty; short = k .short };
-          full = λ q n. absurd (let z : _≡_ {A = ℕ} 0 1 = cc in omega arith);
-          paying = λ q. record { some = omega arith; ends = omega arith; fits = h; own = own };
-        }))
+      let lacks = g (eqb-false _ _ e) in
+      let r′ = reader MessagePayload (current (c .format) (c .place) (c .before) (c .header) (min size (c .header .«message_length» - got))) (unfinished (r .message .id) got) in
+      go-fits r′ (record {
+        got = λ n. rw (own n) at lacks;
+        room-for = λ n. rw (own n) at h;
+        later = λ q n. let k = later n in record { before = k .before; empty = k .empty; short = k .short };
+        full = λ q n. absurd (let z : _≡_ {A = ℕ} 0 1 = cc in omega arith);
+        paying = λ q. record { some = omega arith; ends = omega arith; fits = h; own = own };
+      }))
 
   whole-fits : (r : Reader) (time : ℕ) → Fits room L r → (r .message .id ≢ 0 → Later L r) → Fitting room L (r .message .id) (whole room size r time)
   unfolding whole
@@ -646,37 +585,37 @@ module _ (room size L : ℕ) (some : 0 < size) where
       let P = Fitting room L (r .message .id) in
       tested P (eqb (r .message .id) 0)
       (λ e.
-        let none = eqb-true (r .message .id) 0 e in
-        tested P (eqb k 0)
-        (λ z.
-          opens-fits (headed r (timed (c .header) (firstTime (c .format) (c .before .timestamp .value) time))) 0
-          (first-fits (c .format) (c .header) time room (eqb-true k 0 z))
-          (λ n. omega arith)
-          (λ n. absurd (n none))
-          (λ n. absurd (n none)))
-        (λ z. refuse-fits r k f))
+      let none = eqb-true (r .message .id) 0 e in
+      tested P (eqb k 0)
+      (λ z.
+      opens-fits (headed r (timed (c .header) (firstTime (c .format) (c .before .timestamp .value) time))) 0
+      (first-fits (c .format) (c .header) time room (eqb-true k 0 z))
+      (λ n. omega arith)
+      (λ n. absurd (n none))
+      (λ n. absurd (n none)))
+      (λ z. refuse-fits r k f))
       (λ e.
-        let n = eqb-false (r .message .id) 0 e in
-        let l = later n in
-        tested P (eqb j 0)
-        (λ z.
-          let own = says r l (later-length (c .format) (c .before) (c .header) time (eqb-true j 0 z)) in
-          let got = f .got n in
-          let fit = f .room-for n in
-          opens-fits (headed r (timed (c .header) (c .before .timestamp .value))) (r .message .got)
-          (omega arith)
-          (λ m. omega arith)
-          (λ m. own)
-          (λ m. later-headed L r (timed (c .header) (c .before .timestamp .value)) refl l))
-        (λ z. refuse-fits r j f))
+      let n = eqb-false (r .message .id) 0 e in
+      let l = later n in
+      tested P (eqb j 0)
+      (λ z.
+      let own = says r l (later-length (c .format) (c .before) (c .header) time (eqb-true j 0 z)) in
+      let got = f .got n in
+      let fit = f .room-for n in
+      opens-fits (headed r (timed (c .header) (c .before .timestamp .value))) (r .message .got)
+      (omega arith)
+      (λ m. omega arith)
+      (λ m. own)
+      (λ m. later-headed L r (timed (c .header) (c .before .timestamp .value)) refl l))
+      (λ z. refuse-fits r j f))
 
   extended-fits : (r : Reader) → Fits room L r → (r .message .id ≢ 0 → Later L r) → Fitting room L (r .message .id) (extendedNext room size r)
   unfolding extendedNext
   extended-fits r f later =
       tested (Fitting room L (r .message .id)) (eqb (r .chunk .header .«timestamp_field») maxField)
       (λ e.
-        go-fits (at r (ExtendedTimestamp 0 4))
-        (fits-at room L r (ExtendedTimestamp 0 4) (λ q. later) (λ q n. absurd (let z : _≡_ {A = ℕ} 0 1 = cc in omega arith)) refl f))
+      go-fits (at r (ExtendedTimestamp 0 4))
+      (fits-at room L r (ExtendedTimestamp 0 4) (λ q. later) (λ q n. absurd (let z : _≡_ {A = ℕ} 0 1 = cc in omega arith)) refl f))
       (λ e. whole-fits r (r .chunk .header .«timestamp_field») f later)
 
   -- a field that the format has comes next
@@ -734,18 +673,18 @@ module _ (room size L : ℕ) (some : 0 < size) where
       let fits = k .fits in
       tested P (eqb (r .chunk .left - 1) 0)
       (λ e.
-        tested P (ltb (r .message .got + 1) (r .chunk .header .«message_length»))
-        (λ z. paused-fits r′ (r .message .got + 1) (r .message .id) h (ltb-true _ _ z) fits)
-        (λ z. ended-fits r′ (r .message .id)))
+      tested P (ltb (r .message .got + 1) (r .chunk .header .«message_length»))
+      (λ z. paused-fits r′ (r .message .got + 1) (r .message .id) h (ltb-true _ _ z) fits)
+      (λ z. ended-fits r′ (r .message .id)))
       (λ e.
-        let left = eqb-false (r .chunk .left - 1) 0 e in
-        go-fits r′ (record {
-          got = λ n. let own = k .own n in omega arith;
-          room-for = f .room-for;
-          later = λ q n. let l = f .later (in-payload-past (r .stage) p) n in record { before = l .before; empty = l .empty; short = l .short };
-          full = λ q n. absurd (let z : _≡_ {A = ℕ} 0 1 = cc in omega arith);
-          paying = λ q. record { some = omega arith; ends = omega arith; fits = fits; own = k .own };
-        }))
+      let left = eqb-false (r .chunk .left - 1) 0 e in
+      go-fits r′ (record {
+        got = λ n. let own = k .own n in omega arith;
+        room-for = f .room-for;
+        later = λ q n. let l = f .later (in-payload-past (r .stage) p) n in record { before = l .before; empty = l .empty; short = l .short };
+        full = λ q n. absurd (let z : _≡_ {A = ℕ} 0 1 = cc in omega arith);
+        paying = λ q. record { some = omega arith; ends = omega arith; fits = fits; own = k .own };
+      }))
 
   -- a byte of a header past its basic header
   byte-fits : (stage : Stage) (rows : List ℕ) (r : Reader) (b : ℕ) → r .stage ≡ stage → past stage ≡ true → Fits room L r
@@ -760,15 +699,15 @@ module _ (room size L : ℕ) (some : 0 < size) where
       let h = fielded (r .chunk .header) n in
       tested (Fitting room L (r .message .id)) (leb lacks 1) (λ z. length-fits (headed r h) (fits-headed room L r h refl f) (λ m. later-headed L r h refl (later m)))
       (λ z.
-        go-fits (at r (InitialTimestamp n (lacks - 1)))
-        (fits-at room L r (InitialTimestamp n (lacks - 1)) (λ q. later) (λ q. f .full (rw e)) refl f))
+      go-fits (at r (InitialTimestamp n (lacks - 1)))
+      (fits-at room L r (InitialTimestamp n (lacks - 1)) (λ q. later) (λ q. f .full (rw e)) refl f))
   byte-fits (MessageLength before lacks) rows r b e p f =
       let n = gathered before b in
       let later = f .later (rw e) in
       let full = f .full (rw e) in
       tested (Fitting room L (r .message .id)) (leb lacks 1)
       (λ z.
-        type-fits (headed r (lengthed (r .chunk .header) n)) (fits-lengthed room L r n full (rw e) f) (λ m. later-lengthed L r n (full m) (later m)))
+      type-fits (headed r (lengthed (r .chunk .header) n)) (fits-lengthed room L r n full (rw e) f) (λ m. later-lengthed L r n (full m) (later m)))
       (λ z. go-fits (at r (MessageLength n (lacks - 1))) (fits-at room L r (MessageLength n (lacks - 1)) (λ q. later) (λ q. full) refl f))
   byte-fits MessageTypeId rows r b e p f =
       let h = typed (r .chunk .header) b in
@@ -780,14 +719,14 @@ module _ (room size L : ℕ) (some : 0 < size) where
       tested (Fitting room L (r .message .id)) (leb lacks 1)
       (λ z. extended-fits (headed r h) (fits-headed room L r h refl f) (λ m. later-headed L r h refl (later m)))
       (λ z.
-        go-fits (at r (MessageStreamId n (lacks - 1))) (fits-at room L r (MessageStreamId n (lacks - 1)) (λ q. later) (λ q. f .full (rw e)) refl f))
+      go-fits (at r (MessageStreamId n (lacks - 1))) (fits-at room L r (MessageStreamId n (lacks - 1)) (λ q. later) (λ q. f .full (rw e)) refl f))
   byte-fits (ExtendedTimestamp before lacks) rows r b e p f =
       let n = gathered before b in
       let later = f .later (rw e) in
       tested (Fitting room L (r .message .id)) (leb lacks 1) (λ z. whole-fits r n f later)
       (λ z.
-        go-fits (at r (ExtendedTimestamp n (lacks - 1)))
-        (fits-at room L r (ExtendedTimestamp n (lacks - 1)) (λ q. later) (λ q n. absurd (let y : _≡_ {A = ℕ} 0 1 = cc in omega arith)) refl f))
+      go-fits (at r (ExtendedTimestamp n (lacks - 1)))
+      (fits-at room L r (ExtendedTimestamp n (lacks - 1)) (λ q. later) (λ q n. absurd (let y : _≡_ {A = ℕ} 0 1 = cc in omega arith)) refl f))
   byte-fits MessagePayload rows r b e p f = refuse-fits r 255 f
 
 -- a stage before the end of the basic header is neither of a field nor of payload
@@ -842,6 +781,7 @@ named-fits room size rows r format id some n p s f =
     tells u e m =
         let k = inside-tells format u (ltb (free rows) 64) (eqb (r .message .id) id) (rw (ne-eqb (r .message .id) 0 m) at e) in
         (eqb-true _ _ (k .0), k .1)
+
     by-cases : (u : Bool) → ltb (find rows id) 64 ≡ u → (k : ℕ)
         → basicRefusal format u (ltb (free rows) 64) (not (eqb (r .message .id) 0)) (eqb (r .message .id) id) ≡ k
         → Fitting room (lengthOf rows (r .message .id)) (r .message .id)
@@ -849,32 +789,32 @@ named-fits room size rows r format id some n p s f =
     by-cases true g k e =
         tested (Fitting room (lengthOf rows (r .message .id)) (r .message .id)) (eqb k 0)
         (λ z.
-          let row = rowAt rows (find rows id) in
-          let r′ = reader (r .stage) (current format (find rows id) row row 0) (r .message) in
-          let later : r .message .id ≢ 0 → Later (lengthOf rows (r .message .id)) r′ = λ m.
-          let t = tells true (e ∙ eqb-true k 0 z) m in
-          let same : getD rows (6 * find rows id + 3) 0 ≡ lengthOf rows (r .message .id) = rw (t .0) in
-          record { before = same; empty = t .1; short = λ y. same }
-          in
-          timestamp-fits room size (lengthOf rows (r .message .id)) some r′
-          (record { got = f .got; room-for = f .room-for; later = λ q. later; full = λ q m. absurd (early-past (r .stage) p q); paying = λ q. absurd (payload-past (r .stage) p q) })
-          later)
+        let row = rowAt rows (find rows id) in
+        let r′ = reader (r .stage) (current format (find rows id) row row 0) (r .message) in
+        let later : r .message .id ≢ 0 → Later (lengthOf rows (r .message .id)) r′ = λ m.
+        let t = tells true (e ∙ eqb-true k 0 z) m in
+        let same : getD rows (6 * find rows id + 3) 0 ≡ lengthOf rows (r .message .id) = rw (t .0) in
+        record { before = same; empty = t .1; short = λ y. same }
+        in
+        timestamp-fits room size (lengthOf rows (r .message .id)) some r′
+        (record { got = f .got; room-for = f .room-for; later = λ q. later; full = λ q m. absurd (early-past (r .stage) p q); paying = λ q. absurd (payload-past (r .stage) p q) })
+        later)
         (λ z. refuse-fits room size (lengthOf rows (r .message .id)) some r k f)
     by-cases false g k e =
         tested (Fitting room (lengthOf rows (r .message .id)) (r .message .id)) (eqb k 0)
         (λ z.
-          let none = ltb-false (find rows id) 64 g in
-          let outside : r .message .id ≢ 0 → ⊥ = λ m.
-          let t = tells false (e ∙ eqb-true k 0 z) m in
-          let has = s .begun m in
-          let has′ : find rows id < 64 = rw (t .0) at has in
-          omega arith
-          in
-          record {
-            fits = quiet-fits room _ _ (not-not (r .message .id) outside) refl;
-            same = λ y m. refl;
-            own = λ y m. absurd (outside m);
-          })
+        let none = ltb-false (find rows id) 64 g in
+        let outside : r .message .id ≢ 0 → ⊥ = λ m.
+        let t = tells false (e ∙ eqb-true k 0 z) m in
+        let has = s .begun m in
+        let has′ : find rows id < 64 = rw (t .0) at has in
+        omega arith
+        in
+        record {
+          fits = quiet-fits room _ _ (not-not (r .message .id) outside) refl;
+          same = λ y m. refl;
+          own = λ y m. absurd (outside m);
+        })
         (λ z. refuse-fits room size (lengthOf rows (r .message .id)) some r k f)
 
 -- the row of an id is where it is found
@@ -898,9 +838,9 @@ fitting-fits room rows m s l = by-cases (ltb (s .place) 64) refl
         let g : Fits room (s .row .«message_length») (s .reader) = rw e at (f .fits) in
         rw e (fits-same room (s .row .«message_length») (lengthOf rows′ (s .reader .message .id)) (s .reader)
         (λ n.
-          let own = f .own e n in
-          let at-place : find rows′ (s .reader .message .id) ≡ s .place = find-distinct rows′ (s .reader .message .id) (s .place) d h n (id-put rows (s .place) (s .row) l h ∙ sym own) in
-          rw at-place (sym (put-number rows (s .place) 3 (s .row) l h (omega arith)))) g)
+        let own = f .own e n in
+        let at-place : find rows′ (s .reader .message .id) ≡ s .place = find-distinct rows′ (s .reader .message .id) (s .place) d h n (id-put rows (s .place) (s .row) l h ∙ sym own) in
+        rw at-place (sym (put-number rows (s .place) 3 (s .row) l h (omega arith)))) g)
     by-cases false e k f =
         let g : Fits room (lengthOf rows m) (s .reader) = rw e at (f .fits) in
         rw e (fits-same room (lengthOf rows m) (lengthOf rows (s .reader .message .id)) (s .reader) (λ n. rw (f .same e n)) g)
@@ -935,3 +875,106 @@ stepped-fits MessageTypeId room size rows r b e some s f = byte-fits room size _
 stepped-fits (MessageStreamId before lacks) room size rows r b e some s f = byte-fits room size _ some (MessageStreamId before lacks) rows r b e refl f
 stepped-fits (ExtendedTimestamp before lacks) room size rows r b e some s f = byte-fits room size _ some (ExtendedTimestamp before lacks) rows r b e refl f
 stepped-fits MessagePayload room size rows r b e some s f = byte-fits room size _ some MessagePayload rows r b e refl f
+
+step-fits : (d : ChunkDeserializer) (b : ℕ) → 0 < d .«max_chunk_size» → Sound (d .rows) (d .reader)
+    → Fits (d .room) (lengthOf (d .rows) (d .reader .message .id)) (d .reader)
+    → Fitting (d .room) (lengthOf (d .rows) (d .reader .message .id)) (d .reader .message .id) (stepOf d b)
+unfolding stepOf
+step-fits d b some s f = by-cases (inPayload (d .reader .stage)) (pays (d .room) (d .reader)) refl
+  where
+    by-cases : (t u : Bool) → inPayload (d .reader .stage) ≡ t
+        → Fitting (d .room) (lengthOf (d .rows) (d .reader .message .id)) (d .reader .message .id)
+        (cond t (cond u (landed (d .reader) 1) (refuse (d .reader) 255)) (stepped (d .reader .stage) (d .room) (d .«max_chunk_size») (d .rows) (d .reader) b))
+    by-cases true true e =
+        landed-fits (d .room) (d .«max_chunk_size») _ some (d .reader) (s .owns (in-payload-past (d .reader .stage) e) .inside) e f
+    by-cases true false e = refuse-fits (d .room) (d .«max_chunk_size») _ some (d .reader) 255 f
+    by-cases false u e = stepped-fits (d .reader .stage) (d .room) (d .«max_chunk_size») (d .rows) (d .reader) b refl some s f
+
+-- what holds of every decoder that calls can make
+pub record Reached (d : ChunkDeserializer) : Type 0 where
+  pub sound : Sound (d .rows) (d .reader)
+  pub some : 0 < d .«max_chunk_size»
+  pub fits : Fits (d .room) (lengthOf (d .rows) (d .reader .message .id)) (d .reader)
+
+-- it is kept by every byte
+pub step-reached : (d : ChunkDeserializer) (b : ℕ) → Reached d → Reached (after d (stepOf d b))
+unfolding after
+step-reached d b k =
+    let s = step-sound d b (k .sound) in
+    record {
+      sound = s;
+      some = k .some;
+      fits = fitting-fits (d .room) (d .rows) (d .reader .message .id) (stepOf d b) (k .sound .long) s (step-fits d b (k .some) (k .sound) (k .fits));
+    }
+
+end-reached : (e : Event) (d : ChunkDeserializer) (payload : List ℕ) (n : ℕ) (o : Outcome) → Reached d → Reached (o .deserializer)
+    → Reached (end e d payload n o .deserializer)
+end-reached Go d payload n o p q = q
+end-reached Chunk d payload n o p q = q
+end-reached Message d payload n o p q = p
+end-reached (Refuse k) d payload n o p q = p
+
+-- by a run
+pub run-reached : (a : List ℕ) (d : ChunkDeserializer) (payload : List ℕ) (n : ℕ) → Reached d → Reached (run a d payload n .deserializer)
+unfolding run
+run-reached [] d payload n s = s
+run-reached (x ∷ a) d payload n s =
+    let d′ = after d (stepOf d x) in
+    let k = step-reached d x s in
+    end-reached (stepOf d x .event) d′ (writes d payload x) (n + 1) _ k (run-reached a d′ (writes d payload x) (n + 1) k)
+
+-- by a call
+pub next-reached : (d : ChunkDeserializer) (input payload : List ℕ) → Reached d → Reached (next d input payload .deserializer)
+unfolding next
+next-reached d input payload s = by-cases (eqb (d .closed) 0) (ltb (length payload) (d .room))
+  where
+    by-cases : (t u : Bool)
+        → Reached (cond (not t) (outcome (refused (d .closed) 0) d payload) (cond u (outcome (refused 7 0) d payload) (run input d payload 0)) .deserializer)
+    by-cases true true = s
+    by-cases true false = run-reached input d payload 0 s
+    by-cases false u = s
+
+-- by a chunk size that is told
+pub told-reached : (d : ChunkDeserializer) (size : ℕ) → Reached d → Reached (told d size .deserializer)
+unfolding told
+told-reached d size s = by-cases (eqb (d .closed) 0) (eqb size 0) (ltb maxSize size) (between (d .reader)) refl
+  where
+    by-cases : (t u v w : Bool) → eqb size 0 ≡ u
+        → Reached
+        (first (told-outcome (no-size (d .closed)) d when not t ∷ told-outcome (no-size 3) d when u ∷ told-outcome (no-size 4) d when v
+        ∷ told-outcome (no-size 8) d when not w
+        ∷ []) (told-outcome taken (sized d size)) .deserializer)
+    by-cases false u v w e = s
+    by-cases true true v w e = s
+    by-cases true false true w e = s
+    by-cases true false false false e = s
+    by-cases true false false true e = let n = eqb-false size 0 e in record { sound = s .sound; some = omega arith; fits = s .fits }
+
+-- and it holds of a decoder that is made
+fresh-reached : (room closed : ℕ) → Reached (fresh room closed)
+fresh-reached room closed = record {
+  sound = record {
+    long = length-replicate {A = ℕ} 384 0;
+    distinct = λ i j h k n e. absurd (n (getD-replicate {A = ℕ} 384 (6 * i) 0 0 (omega arith)));
+    begun = λ n. absurd (n refl);
+    owns = λ e. absurd (let z : _≡_ {A = ℕ} 0 1 = cc in omega arith);
+  };
+  some = omega arith;
+  fits = quiet-fits room _ _ refl refl;
+}
+
+pub made-reached : (room : ℕ) → Reached (made room .deserializer)
+unfolding made
+made-reached room = by-cases (eqb room 0 || ltb maxRoom room)
+  where
+    by-cases : (t : Bool) → Reached (cond t (told-outcome (no-size 6) (fresh room 6)) (told-outcome taken (fresh room 0)) .deserializer)
+    by-cases true = fresh-reached room 6
+    by-cases false = fresh-reached room 0
+
+-- the guard against a payload that cannot be never answers: a reader in a payload lacks a byte, and its chunk ends within the room
+pub payload-pays : (d : ChunkDeserializer) → Reached d → inPayload (d .reader .stage) ≡ true → pays (d .room) (d .reader) ≡ true
+payload-pays d k p =
+    let q = k .fits .paying p in
+    let ends = q .ends in
+    let fits = q .fits in
+    pays-is (d .room) (d .reader) (q .some) (omega arith)
