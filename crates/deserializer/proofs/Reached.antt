@@ -74,7 +74,7 @@ use Rattle.deserializer.specs.Machine.{
   typeNext,
   whole,
 }
-use Rattle.deserializer.specs.Meaning.{basicRefusal, firstRefusal, firstTime, isEmpty, isFull, laterRefusal, maxField}
+use Rattle.deserializer.specs.Meaning.{basicRefusal, firstRefusal, firstTime, isEmpty, isFull, laterRefusal, maxField, repeats}
 use Rattle.deserializer.specs.Rows.{claimed, find, free, putRow, rowAt}
 use Rattle.deserializer.specs.Answer.{refused}
 use Rattle.deserializer.specs.Call.{Outcome, after, end, next, outcome, putAt, run, stepOf, writes}
@@ -455,6 +455,56 @@ pub record Fitting (room L m : ℕ) (s : Stepped) : Type 0 where
   pub fits : Fits room (cond (ltb (s .place) 64) (s .row .«message_length») L) (s .reader)
   pub same : ltb (s .place) 64 ≡ false → s .reader .message .id ≢ 0 → s .reader .message .id ≡ m
   pub own : ltb (s .place) 64 ≡ true → s .reader .message .id ≢ 0 → s .reader .message .id ≡ s .row .id
+  pub guard : s .event ≢ Refuse 255
+
+-- a reader in such a payload passes the guard
+paying-pays : (room L : ℕ) (r : Reader) → Paying room L r → pays room r ≡ true
+paying-pays room L r p =
+    let ends = p .ends in
+    let fits = p .fits in
+    pays-is room r (p .some) (omega arith)
+
+-- the other events are no refusal
+go-is-not : Go ≢ Refuse 255
+go-is-not e = let z : _≡_ {A = ℕ} 0 1 = cc in omega arith
+
+chunk-is-not : Chunk ≢ Refuse 255
+chunk-is-not e = let z : _≡_ {A = ℕ} 0 1 = cc in omega arith
+
+message-is-not : Message ≢ Refuse 255
+message-is-not e = let z : _≡_ {A = ℕ} 0 1 = cc in omega arith
+
+-- the refusals of document 01 are numbers up to 14
+first-small : (format : ChunkHeaderFormat) (header : Row) (number room : ℕ) → firstRefusal format header number room ≤ 14
+unfolding firstRefusal
+first-small format header number room =
+    by-cases (not (isFull format) && (eqb (header .«timestamp_field») maxField && ltb number maxField)) (ltb room (header .«message_length»))
+  where
+    by-cases : (t u : Bool) → first (13 when t ∷ 14 when u ∷ []) 0 ≤ 14
+    by-cases true u = omega arith
+    by-cases false true = omega arith
+    by-cases false false = omega arith
+
+later-small : (format : ChunkHeaderFormat) (message header : Row) (number : ℕ) → laterRefusal format message header number ≤ 14
+unfolding laterRefusal
+later-small format message header number = by-cases (isFull format && not (repeats message header number))
+  where
+    by-cases : (t : Bool) → first (12 when t ∷ []) 0 ≤ 14
+    by-cases true = omega arith
+    by-cases false = omega arith
+
+basic-small : (format : ChunkHeaderFormat) (has-row unused inside own : Bool) → basicRefusal format has-row unused inside own ≤ 14
+unfolding basicRefusal
+basic-small format has-row unused inside own =
+    by-cases (not inside && (not (isFull format) && not has-row)) (isFull format && (not has-row && not unused)) (inside && not own)
+    (inside && (not (isFull format) && not (isEmpty format)))
+  where
+    by-cases : (t u v w : Bool) → first (9 when t ∷ 10 when u ∷ 11 when v ∷ 12 when w ∷ []) 0 ≤ 14
+    by-cases true u v w = omega arith
+    by-cases false true v w = omega arith
+    by-cases false false true w = omega arith
+    by-cases false false false true = omega arith
+    by-cases false false false false = omega arith
 
 -- a test, with what it tells
 tested : (P : Stepped → Type 0) (t : Bool) {a b : Stepped} → (t ≡ true → P a) → (t ≡ false → P b) → P (cond t a b)
@@ -549,13 +599,18 @@ fits-at room L r stage later full p f = record {
 
 module _ (room size L : ℕ) (some : 0 < size) where
   go-fits : (r : Reader) → Fits room L r → Fitting room L (r .message .id) (go r)
-  go-fits r f = record { fits = f; same = λ e n. refl; own = λ e n. absurd (let z : _≡_ {A = ℕ} 0 1 = cc in omega arith) }
+  go-fits r f = record { fits = f; same = λ e n. refl; own = λ e n. absurd (let z : _≡_ {A = ℕ} 0 1 = cc in omega arith); guard = go-is-not }
 
-  refuse-fits : (r : Reader) (k : ℕ) → Fits room L r → Fitting room L (r .message .id) (refuse r k)
-  refuse-fits r k f = record { fits = f; same = λ e n. refl; own = λ e n. absurd (let z : _≡_ {A = ℕ} 0 1 = cc in omega arith) }
+  refuse-fits : (r : Reader) (k : ℕ) → k ≤ 14 → Fits room L r → Fitting room L (r .message .id) (refuse r k)
+  refuse-fits r k small f = record {
+    fits = f;
+    same = λ e n. refl;
+    own = λ e n. absurd (let z : _≡_ {A = ℕ} 0 1 = cc in omega arith);
+    guard = λ e. let q : k ≡ 255 = cc in omega arith;
+  }
 
   ended-fits : (r : Reader) (m : ℕ) → Fitting room L m (ended r)
-  ended-fits r m = record { fits = quiet-fits room _ _ refl refl; same = λ e n. absurd (n refl); own = λ e n. absurd (n refl) }
+  ended-fits r m = record { fits = quiet-fits room _ _ refl refl; same = λ e n. absurd (n refl); own = λ e n. absurd (n refl); guard = message-is-not }
 
   -- a payload opens
   opens-fits : (r : Reader) (got : ℕ) → r .chunk .header .«message_length» ≤ room → (r .chunk .header .«message_length» ≢ 0 → got < r .chunk .header .«message_length»)
@@ -593,7 +648,7 @@ module _ (room size L : ℕ) (some : 0 < size) where
       (λ n. omega arith)
       (λ n. absurd (n none))
       (λ n. absurd (n none)))
-      (λ z. refuse-fits r k f))
+      (λ z. refuse-fits r k (first-small (c .format) (c .header) time room) f))
       (λ e.
       let n = eqb-false (r .message .id) 0 e in
       let l = later n in
@@ -607,7 +662,7 @@ module _ (room size L : ℕ) (some : 0 < size) where
       (λ m. omega arith)
       (λ m. own)
       (λ m. later-headed L r (timed (c .header) (c .before .timestamp .value)) refl l))
-      (λ z. refuse-fits r j f))
+      (λ z. refuse-fits r j (later-small (c .format) (c .before) (c .header) time) f))
 
   extended-fits : (r : Reader) → Fits room L r → (r .message .id ≢ 0 → Later L r) → Fitting room L (r .message .id) (extendedNext room size r)
   unfolding extendedNext
@@ -661,7 +716,7 @@ module _ (room size L : ℕ) (some : 0 < size) where
         paying = λ q. absurd (let z : _≡_ {A = ℕ} 0 1 = cc in omega arith);
       }
       in
-      record { fits = rw e f; same = λ z n. absurd (let y : _≡_ {A = ℕ} 0 1 = cc in omega arith); own = λ z n. refl }
+      record { fits = rw e f; same = λ z n. absurd (let y : _≡_ {A = ℕ} 0 1 = cc in omega arith); own = λ z n. refl; guard = chunk-is-not }
 
   landed-fits : (r : Reader) → r .chunk .place < 64 → inPayload (r .stage) ≡ true → Fits room L r → Fitting room L (r .message .id) (landed r 1)
   unfolding landed
@@ -687,13 +742,13 @@ module _ (room size L : ℕ) (some : 0 < size) where
       }))
 
   -- a byte of a header past its basic header
-  byte-fits : (stage : Stage) (rows : List ℕ) (r : Reader) (b : ℕ) → r .stage ≡ stage → past stage ≡ true → Fits room L r
+  byte-fits : (stage : Stage) (rows : List ℕ) (r : Reader) (b : ℕ) → r .stage ≡ stage → past stage ≡ true → inPayload stage ≡ false → Fits room L r
       → Fitting room L (r .message .id) (stepped stage room size rows r b)
   unfolding timestampField lengthField typeField streamField extendedField
-  byte-fits AtCsid rows r b e p f = absurd (let z : _≡_ {A = ℕ} 0 1 = cc in omega arith)
-  byte-fits (CsidSecond a) rows r b e p f = absurd (let z : _≡_ {A = ℕ} 0 1 = cc in omega arith)
-  byte-fits (CsidThird a c) rows r b e p f = absurd (let z : _≡_ {A = ℕ} 0 1 = cc in omega arith)
-  byte-fits (InitialTimestamp before lacks) rows r b e p f =
+  byte-fits AtCsid rows r b e p q f = absurd (let z : _≡_ {A = ℕ} 0 1 = cc in omega arith)
+  byte-fits (CsidSecond a) rows r b e p q f = absurd (let z : _≡_ {A = ℕ} 0 1 = cc in omega arith)
+  byte-fits (CsidThird a c) rows r b e p q f = absurd (let z : _≡_ {A = ℕ} 0 1 = cc in omega arith)
+  byte-fits (InitialTimestamp before lacks) rows r b e p q f =
       let n = gathered before b in
       let later = f .later (rw e) in
       let h = fielded (r .chunk .header) n in
@@ -701,7 +756,7 @@ module _ (room size L : ℕ) (some : 0 < size) where
       (λ z.
       go-fits (at r (InitialTimestamp n (lacks - 1)))
       (fits-at room L r (InitialTimestamp n (lacks - 1)) (λ q. later) (λ q. f .full (rw e)) refl f))
-  byte-fits (MessageLength before lacks) rows r b e p f =
+  byte-fits (MessageLength before lacks) rows r b e p q f =
       let n = gathered before b in
       let later = f .later (rw e) in
       let full = f .full (rw e) in
@@ -709,10 +764,10 @@ module _ (room size L : ℕ) (some : 0 < size) where
       (λ z.
       type-fits (headed r (lengthed (r .chunk .header) n)) (fits-lengthed room L r n full (rw e) f) (λ m. later-lengthed L r n (full m) (later m)))
       (λ z. go-fits (at r (MessageLength n (lacks - 1))) (fits-at room L r (MessageLength n (lacks - 1)) (λ q. later) (λ q. full) refl f))
-  byte-fits MessageTypeId rows r b e p f =
+  byte-fits MessageTypeId rows r b e p q f =
       let h = typed (r .chunk .header) b in
       stream-fits (headed r h) (fits-headed room L r h refl f) (λ m. later-headed L r h refl (f .later (rw e) m))
-  byte-fits (MessageStreamId before lacks) rows r b e p f =
+  byte-fits (MessageStreamId before lacks) rows r b e p q f =
       let n = gathered before b in
       let later = f .later (rw e) in
       let h = streamed (r .chunk .header) (swapped n) in
@@ -720,14 +775,14 @@ module _ (room size L : ℕ) (some : 0 < size) where
       (λ z. extended-fits (headed r h) (fits-headed room L r h refl f) (λ m. later-headed L r h refl (later m)))
       (λ z.
       go-fits (at r (MessageStreamId n (lacks - 1))) (fits-at room L r (MessageStreamId n (lacks - 1)) (λ q. later) (λ q. f .full (rw e)) refl f))
-  byte-fits (ExtendedTimestamp before lacks) rows r b e p f =
+  byte-fits (ExtendedTimestamp before lacks) rows r b e p q f =
       let n = gathered before b in
       let later = f .later (rw e) in
       tested (Fitting room L (r .message .id)) (leb lacks 1) (λ z. whole-fits r n f later)
       (λ z.
       go-fits (at r (ExtendedTimestamp n (lacks - 1)))
       (fits-at room L r (ExtendedTimestamp n (lacks - 1)) (λ q. later) (λ q n. absurd (let y : _≡_ {A = ℕ} 0 1 = cc in omega arith)) refl f))
-  byte-fits MessagePayload rows r b e p f = refuse-fits r 255 f
+  byte-fits MessagePayload rows r b e p q f = absurd (let z : _≡_ {A = ℕ} 0 1 = cc in omega arith)
 
 -- a stage before the end of the basic header is neither of a field nor of payload
 early-past : (stage : Stage) → past stage ≡ false → early stage ≡ true → ⊥
@@ -799,7 +854,7 @@ named-fits room size rows r format id some n p s f =
         timestamp-fits room size (lengthOf rows (r .message .id)) some r′
         (record { got = f .got; room-for = f .room-for; later = λ q. later; full = λ q m. absurd (early-past (r .stage) p q); paying = λ q. absurd (payload-past (r .stage) p q) })
         later)
-        (λ z. refuse-fits room size (lengthOf rows (r .message .id)) some r k f)
+        (λ z. refuse-fits room size (lengthOf rows (r .message .id)) some r k (rw e at (basic-small format true (ltb (free rows) 64) (not (eqb (r .message .id) 0)) (eqb (r .message .id) id))) f)
     by-cases false g k e =
         tested (Fitting room (lengthOf rows (r .message .id)) (r .message .id)) (eqb k 0)
         (λ z.
@@ -814,8 +869,9 @@ named-fits room size rows r format id some n p s f =
           fits = quiet-fits room _ _ (not-not (r .message .id) outside) refl;
           same = λ y m. refl;
           own = λ y m. absurd (outside m);
+          guard = go-is-not;
         })
-        (λ z. refuse-fits room size (lengthOf rows (r .message .id)) some r k f)
+        (λ z. refuse-fits room size (lengthOf rows (r .message .id)) some r k (rw e at (basic-small format false (ltb (free rows) 64) (not (eqb (r .message .id) 0)) (eqb (r .message .id) id))) f)
 
 -- the row of an id is where it is found
 find-distinct : (rows : List ℕ) (id p : ℕ) → Distinct rows → p < 64 → id ≢ 0 → getD rows (6 * p) 0 ≡ id → find rows id ≡ p
@@ -863,32 +919,32 @@ basic-fits room size rows r bytes kept p q some s f =
     (λ id n. named-fits room size rows r format id some n p s f)
 
 -- a byte, by the stage
-stepped-fits : (stage : Stage) (room size : ℕ) (rows : List ℕ) (r : Reader) (b : ℕ) → r .stage ≡ stage → 0 < size → Sound rows r
+stepped-fits : (stage : Stage) (room size : ℕ) (rows : List ℕ) (r : Reader) (b : ℕ) → r .stage ≡ stage → inPayload stage ≡ false → 0 < size → Sound rows r
     → Fits room (lengthOf rows (r .message .id)) r
     → Fitting room (lengthOf rows (r .message .id)) (r .message .id) (stepped stage room size rows r b)
-stepped-fits AtCsid room size rows r b e some s f = basic-fits room size rows r (b ∷ []) (CsidSecond b) (rw e) refl some s f
-stepped-fits (CsidSecond a) room size rows r b e some s f = basic-fits room size rows r (a ∷ b ∷ []) (CsidThird a b) (rw e) refl some s f
-stepped-fits (CsidThird a c) room size rows r b e some s f = basic-fits room size rows r (a ∷ c ∷ b ∷ []) (CsidThird a c) (rw e) refl some s f
-stepped-fits (InitialTimestamp before lacks) room size rows r b e some s f = byte-fits room size _ some (InitialTimestamp before lacks) rows r b e refl f
-stepped-fits (MessageLength before lacks) room size rows r b e some s f = byte-fits room size _ some (MessageLength before lacks) rows r b e refl f
-stepped-fits MessageTypeId room size rows r b e some s f = byte-fits room size _ some MessageTypeId rows r b e refl f
-stepped-fits (MessageStreamId before lacks) room size rows r b e some s f = byte-fits room size _ some (MessageStreamId before lacks) rows r b e refl f
-stepped-fits (ExtendedTimestamp before lacks) room size rows r b e some s f = byte-fits room size _ some (ExtendedTimestamp before lacks) rows r b e refl f
-stepped-fits MessagePayload room size rows r b e some s f = byte-fits room size _ some MessagePayload rows r b e refl f
+stepped-fits AtCsid room size rows r b e p some s f = basic-fits room size rows r (b ∷ []) (CsidSecond b) (rw e) refl some s f
+stepped-fits (CsidSecond a) room size rows r b e p some s f = basic-fits room size rows r (a ∷ b ∷ []) (CsidThird a b) (rw e) refl some s f
+stepped-fits (CsidThird a c) room size rows r b e p some s f = basic-fits room size rows r (a ∷ c ∷ b ∷ []) (CsidThird a c) (rw e) refl some s f
+stepped-fits (InitialTimestamp before lacks) room size rows r b e p some s f = byte-fits room size _ some (InitialTimestamp before lacks) rows r b e refl refl f
+stepped-fits (MessageLength before lacks) room size rows r b e p some s f = byte-fits room size _ some (MessageLength before lacks) rows r b e refl refl f
+stepped-fits MessageTypeId room size rows r b e p some s f = byte-fits room size _ some MessageTypeId rows r b e refl refl f
+stepped-fits (MessageStreamId before lacks) room size rows r b e p some s f = byte-fits room size _ some (MessageStreamId before lacks) rows r b e refl refl f
+stepped-fits (ExtendedTimestamp before lacks) room size rows r b e p some s f = byte-fits room size _ some (ExtendedTimestamp before lacks) rows r b e refl refl f
+stepped-fits MessagePayload room size rows r b e p some s f = absurd (let z : _≡_ {A = ℕ} 0 1 = cc in omega arith)
 
 step-fits : (d : ChunkDeserializer) (b : ℕ) → 0 < d .«max_chunk_size» → Sound (d .rows) (d .reader)
     → Fits (d .room) (lengthOf (d .rows) (d .reader .message .id)) (d .reader)
     → Fitting (d .room) (lengthOf (d .rows) (d .reader .message .id)) (d .reader .message .id) (stepOf d b)
 unfolding stepOf
-step-fits d b some s f = by-cases (inPayload (d .reader .stage)) (pays (d .room) (d .reader)) refl
+step-fits d b some s f = by-cases (inPayload (d .reader .stage)) (pays (d .room) (d .reader)) refl refl
   where
-    by-cases : (t u : Bool) → inPayload (d .reader .stage) ≡ t
+    by-cases : (t u : Bool) → inPayload (d .reader .stage) ≡ t → pays (d .room) (d .reader) ≡ u
         → Fitting (d .room) (lengthOf (d .rows) (d .reader .message .id)) (d .reader .message .id)
         (cond t (cond u (landed (d .reader) 1) (refuse (d .reader) 255)) (stepped (d .reader .stage) (d .room) (d .«max_chunk_size») (d .rows) (d .reader) b))
-    by-cases true true e =
+    by-cases true true e g =
         landed-fits (d .room) (d .«max_chunk_size») _ some (d .reader) (s .owns (in-payload-past (d .reader .stage) e) .inside) e f
-    by-cases true false e = refuse-fits (d .room) (d .«max_chunk_size») _ some (d .reader) 255 f
-    by-cases false u e = stepped-fits (d .reader .stage) (d .room) (d .«max_chunk_size») (d .rows) (d .reader) b refl some s f
+    by-cases true false e g = let h = paying-pays (d .room) _ (d .reader) (f .paying e) in absurd (let z : _≡_ {A = ℕ} 0 1 = cc in omega arith)
+    by-cases false u e g = stepped-fits (d .reader .stage) (d .room) (d .«max_chunk_size») (d .rows) (d .reader) b refl e some s f
 
 -- what holds of every decoder that calls can make
 pub record Reached (d : ChunkDeserializer) : Type 0 where
@@ -971,10 +1027,10 @@ made-reached room = by-cases (eqb room 0 || ltb maxRoom room)
     by-cases true = fresh-reached room 6
     by-cases false = fresh-reached room 0
 
--- the guard against a payload that cannot be never answers: a reader in a payload lacks a byte, and its chunk ends within the room
+-- a reader in a payload lacks a byte, and its chunk ends within the room ..
 pub payload-pays : (d : ChunkDeserializer) → Reached d → inPayload (d .reader .stage) ≡ true → pays (d .room) (d .reader) ≡ true
-payload-pays d k p =
-    let q = k .fits .paying p in
-    let ends = q .ends in
-    let fits = q .fits in
-    pays-is (d .room) (d .reader) (q .some) (omega arith)
+payload-pays d k p = paying-pays (d .room) _ (d .reader) (k .fits .paying p)
+
+-- .. so the guard against any other is never answered by a byte
+pub step-unguarded : (d : ChunkDeserializer) (b : ℕ) → Reached d → stepOf d b .event ≢ Refuse 255
+step-unguarded d b k = step-fits d b (k .some) (k .sound) (k .fits) .guard
