@@ -1,6 +1,6 @@
 -- What holds of every decoder that calls can make: a row is put only over its own id, or over a free row with an id that no row has, so no id occurs twice.
 use Prim.Native.Nat.{ℕ, _+_, _-_, _*_, _%_, _≤_, _<_, min}
-use mathlib.Core.Path.{_≡_, refl, sym, subst, _∙_}
+use mathlib.Core.Path.{_≡_, refl, sym, ap, _∙_}
 use mathlib.Core.Logic.{_≢_}
 use mathlib.Core.Bool.{Bool, true, false, cond, not, _&&_, _||_}
 use mathlib.Core.List.{List, [], _∷_}
@@ -77,7 +77,7 @@ use Rattle.deserializer.specs.Machine.{
 use Rattle.deserializer.specs.Meaning.{basicRefusal, firstRefusal, firstTime, isEmpty, isFull, laterRefusal, maxField, repeats}
 use Rattle.deserializer.specs.Rows.{claimed, find, free, putRow, rowAt}
 use Rattle.deserializer.specs.Answer.{refused}
-use Rattle.deserializer.specs.Call.{Outcome, after, end, next, outcome, putAt, run, stepOf, writes}
+use Rattle.deserializer.specs.Call.{Outcome, after, closes, end, next, outcome, putAt, run, stepOf, writes}
 use Rattle.deserializer.specs.Told.{between, fresh, made, maxRoom, maxSize, outcome as told-outcome, refused as no-size, sized, taken, told}
 use Rattle.deserializer.proofs.Runs.{pays-is}
 use Rattle.deserializer.proofs.RowLaws.{Alone, Distinct, alone-none, alone-there, distinct-put, find-none, find-tells, id-other, id-put, length-putRow, put-number}
@@ -951,16 +951,26 @@ pub record Reached (d : ChunkDeserializer) : Type 0 where
   pub sound : Sound (d .rows) (d .reader)
   pub some : 0 < d .«max_chunk_size»
   pub fits : Fits (d .room) (lengthOf (d .rows) (d .reader .message .id)) (d .reader)
+  pub unguarded : d .closed ≢ 255
+
+-- a refusal that is not the guard's closes with another number
+closes-unguarded : (e : Event) (n : ℕ) → e ≢ Refuse 255 → n ≢ 255 → closes e n ≢ 255
+closes-unguarded Go n h k = k
+closes-unguarded Chunk n h k = k
+closes-unguarded Message n h k = k
+closes-unguarded (Refuse j) n h k = λ q. h (ap Refuse q)
 
 -- it is kept by every byte
 pub step-reached : (d : ChunkDeserializer) (b : ℕ) → Reached d → Reached (after d (stepOf d b))
 unfolding after
 step-reached d b k =
     let s = step-sound d b (k .sound) in
+    let f = step-fits d b (k .some) (k .sound) (k .fits) in
     record {
       sound = s;
       some = k .some;
-      fits = fitting-fits (d .room) (d .rows) (d .reader .message .id) (stepOf d b) (k .sound .long) s (step-fits d b (k .some) (k .sound) (k .fits));
+      fits = fitting-fits (d .room) (d .rows) (d .reader .message .id) (stepOf d b) (k .sound .long) s f;
+      unguarded = closes-unguarded (stepOf d b .event) (d .closed) (f .guard) (k .unguarded);
     }
 
 end-reached : (e : Event) (d : ChunkDeserializer) (payload : List ℕ) (n : ℕ) (o : Outcome) → Reached d → Reached (o .deserializer)
@@ -1004,11 +1014,11 @@ told-reached d size s = by-cases (eqb (d .closed) 0) (eqb size 0) (ltb maxSize s
     by-cases true true v w e = s
     by-cases true false true w e = s
     by-cases true false false false e = s
-    by-cases true false false true e = let n = eqb-false size 0 e in record { sound = s .sound; some = omega arith; fits = s .fits }
+    by-cases true false false true e = let n = eqb-false size 0 e in record { sound = s .sound; some = omega arith; fits = s .fits; unguarded = s .unguarded }
 
 -- and it holds of a decoder that is made
-fresh-reached : (room closed : ℕ) → Reached (fresh room closed)
-fresh-reached room closed = record {
+fresh-reached : (room closed : ℕ) → closed ≢ 255 → Reached (fresh room closed)
+fresh-reached room closed h = record {
   sound = record {
     long = length-replicate {A = ℕ} 384 0;
     distinct = λ i j h k n e. absurd (n (getD-replicate {A = ℕ} 384 (6 * i) 0 0 (omega arith)));
@@ -1017,6 +1027,7 @@ fresh-reached room closed = record {
   };
   some = omega arith;
   fits = quiet-fits room _ _ refl refl;
+  unguarded = h;
 }
 
 pub made-reached : (room : ℕ) → Reached (made room .deserializer)
@@ -1024,8 +1035,8 @@ unfolding made
 made-reached room = by-cases (eqb room 0 || ltb maxRoom room)
   where
     by-cases : (t : Bool) → Reached (cond t (told-outcome (no-size 6) (fresh room 6)) (told-outcome taken (fresh room 0)) .deserializer)
-    by-cases true = fresh-reached room 6
-    by-cases false = fresh-reached room 0
+    by-cases true = fresh-reached room 6 (λ e. omega arith)
+    by-cases false = fresh-reached room 0 (λ e. omega arith)
 
 -- a reader in a payload lacks a byte, and its chunk ends within the room ..
 pub payload-pays : (d : ChunkDeserializer) → Reached d → inPayload (d .reader .stage) ≡ true → pays (d .room) (d .reader) ≡ true
@@ -1034,3 +1045,30 @@ payload-pays d k p = paying-pays (d .room) _ (d .reader) (k .fits .paying p)
 -- .. so the guard against any other is never answered by a byte
 pub step-unguarded : (d : ChunkDeserializer) (b : ℕ) → Reached d → stepOf d b .event ≢ Refuse 255
 step-unguarded d b k = step-fits d b (k .some) (k .sound) (k .fits) .guard
+
+end-unguarded : (e : Event) (d : ChunkDeserializer) (payload : List ℕ) (n m : ℕ) (o : Outcome) → e ≢ Refuse 255 → o .answer ≢ refused 255 m
+    → end e d payload n o .answer ≢ refused 255 m
+end-unguarded Go d payload n m o h k = k
+end-unguarded Chunk d payload n m o h k = k
+end-unguarded Message d payload n m o h k = λ q. let z : _≡_ {A = ℕ} 0 1 = cc in omega arith
+end-unguarded (Refuse j) d payload n m o h k = λ q. h (cc)
+
+run-unguarded : (a : List ℕ) (d : ChunkDeserializer) (payload : List ℕ) (n m : ℕ) → Reached d → run a d payload n .answer ≢ refused 255 m
+unfolding run
+run-unguarded [] d payload n m s = λ q. let z : _≡_ {A = ℕ} 0 1 = cc in omega arith
+run-unguarded (x ∷ a) d payload n m s =
+    let d′ = after d (stepOf d x) in
+    end-unguarded (stepOf d x .event) d′ (writes d payload x) (n + 1) m _ (step-unguarded d x s)
+    (run-unguarded a d′ (writes d payload x) (n + 1) m (step-reached d x s))
+
+-- nor by a call
+pub next-unguarded : (d : ChunkDeserializer) (input payload : List ℕ) (m : ℕ) → Reached d → next d input payload .answer ≢ refused 255 m
+unfolding next
+next-unguarded d input payload m s = by-cases (eqb (d .closed) 0) (ltb (length payload) (d .room))
+  where
+    by-cases : (t u : Bool)
+        → cond (not t) (outcome (refused (d .closed) 0) d payload) (cond u (outcome (refused 7 0) d payload) (run input d payload 0)) .answer
+        ≢ refused 255 m
+    by-cases true true = λ q. let e : _≡_ {A = ℕ} 7 255 = cc in omega arith
+    by-cases true false = run-unguarded input d payload 0 m s
+    by-cases false u = λ q. s .unguarded (cc)
