@@ -82,6 +82,13 @@ use Rattle.deserializer.specs.Told.{between, fresh, made, maxRoom, maxSi
 use Rattle.deserializer.proofs.Runs.{pays-is}
 use Rattle.deserializer.proofs.RowLaws.{Alone, Distinct, alone-none, alone-there, distinct-put, find-none, find-tells, id-other, id-put, length-putRow, put-number}
 
+-- a test that tells both ways
+clash : {A : Type 0} {t : Bool} → t ≡ false → t ≡ true → A
+clash p q = absurd (let z : _≡_ {A = ℕ} 0 1 = cc in omega arith)
+
+never : {A : Type 0} → false ≡ true → A
+never q = clash refl q
+
 -- the basic header is whole: a field of the header comes, or payload
 abbrev pub past : Stage → Bool
 past AtCsid = false
@@ -231,9 +238,9 @@ module _ (rows : List ℕ) where
   -- a byte of a header, past its basic header
   field-stays : (stage : Stage) (room size : ℕ) (r : Reader) (b : ℕ) → past stage ≡ true → HasRow rows (r .message .id) → StaysAt rows r (stepped stage room size rows r b)
   unfolding timestampField lengthField typeField streamField extendedField
-  field-stays AtCsid room size r b p h = absurd (let z : _≡_ {A = ℕ} 0 1 = cc in omega arith)
-  field-stays (CsidSecond a) room size r b p h = absurd (let z : _≡_ {A = ℕ} 0 1 = cc in omega arith)
-  field-stays (CsidThird a c) room size r b p h = absurd (let z : _≡_ {A = ℕ} 0 1 = cc in omega arith)
+  field-stays AtCsid room size r b p h = never p
+  field-stays (CsidSecond a) room size r b p h = never p
+  field-stays (CsidThird a c) room size r b p h = never p
   field-stays (InitialTimestamp before lacks) room size r b p h =
       let n = gathered before b in
       either rows _ _ (leb lacks 1) (length-stays room size (headed r (fielded (r .chunk .header) n)) h) (go-stays (at r (InitialTimestamp n (lacks - 1))) h)
@@ -289,7 +296,7 @@ waits-sound rows r r′ p e s = record {
   long = s .long;
   distinct = s .distinct;
   begun = rw e (s .begun);
-  owns = λ q. absurd (let z : _≡_ {A = ℕ} 0 1 = cc in omega arith);
+  owns = λ q. clash p q;
 }
 
 -- an id that has no row gets the first free one
@@ -437,7 +444,7 @@ quiet-fits room L r e p = record {
   room-for = λ n. absurd (n e);
   later = λ q n. absurd (n e);
   full = λ q n. absurd (n e);
-  paying = λ q. absurd (let z : _≡_ {A = ℕ} 0 1 = cc in omega arith);
+  paying = λ q. clash p q;
 }
 
 -- the length matters only inside a message
@@ -517,8 +524,8 @@ has-field : (format : ChunkHeaderFormat) (field : ℕ) → leb 3 (lastType field
     → isFull format ≡ true
 unfolding fieldLength
 has-field Full field k h e = refl
-has-field TimeDeltaWithoutMessageStreamId field k h e = absurd (let y = h refl in let z : _≡_ {A = ℕ} 0 1 = cc in omega arith)
-has-field TimeDeltaOnly field k h e = absurd (let y = h refl in let z : _≡_ {A = ℕ} 0 1 = cc in omega arith)
+has-field TimeDeltaWithoutMessageStreamId field k h e = never (h refl)
+has-field TimeDeltaOnly field k h e = never (h refl)
 has-field Empty field k h e = absurd (let z : fieldLength 3 field ≡ 0 = rw k in eqb-false (fieldLength 3 field) 0 e z)
 
 -- a first chunk that is not refused fits
@@ -544,7 +551,7 @@ later-length format message header number h f =
         → header .«message_length» ≡ message .«message_length»
     by-cases true true v f e h = eqb-true _ _ e
     by-cases true false v f e h = absurd (omega arith)
-    by-cases false u v f e h = absurd (let z : _≡_ {A = ℕ} 0 1 = cc in omega arith)
+    by-cases false u v f e h = never f
 
 -- so a header inside a message says its length
 says : {L : ℕ} (r : Reader) → Later L r → (isFull (r .chunk .format) ≡ true → r .chunk .header .«message_length» ≡ r .chunk .before .«message_length»)
@@ -571,7 +578,7 @@ fits-headed room L r h e f = record {
 -- a length that is read, which inside a message only a full header has
 later-lengthed : (L : ℕ) (r : Reader) (x : ℕ) → isFull (r .chunk .format) ≡ true → Later L r → Later L (headed r (lengthed (r .chunk .header) x))
 later-lengthed L r x f k =
-    record { before = k .before; empty = k .empty; short = λ z. absurd (let y : _≡_ {A = ℕ} 0 1 = cc in omega arith) }
+    record { before = k .before; empty = k .empty; short = λ z. clash z f }
 
 fits-lengthed : (room L : ℕ) (r : Reader) (x : ℕ) → (r .message .id ≢ 0 → isFull (r .chunk .format) ≡ true) → inPayload (r .stage) ≡ false → Fits room L r
     → Fits room L (headed r (lengthed (r .chunk .header) x))
@@ -580,7 +587,7 @@ fits-lengthed room L r x full p f = record {
   room-for = f .room-for;
   later = λ q n. later-lengthed L r x (full n) (f .later q n);
   full = f .full;
-  paying = λ q. absurd (let y : _≡_ {A = ℕ} 0 1 = cc in omega arith);
+  paying = λ q. clash p q;
 }
 
 -- the same reader at another stage
@@ -594,18 +601,18 @@ fits-at room L r stage later full p f = record {
   room-for = f .room-for;
   later = λ q n. let k = later q n in record { before = k .before; empty = k .empty; short = k .short };
   full = full;
-  paying = λ q. absurd (let y : _≡_ {A = ℕ} 0 1 = cc in omega arith);
+  paying = λ q. clash p q;
 }
 
 module _ (room size L : ℕ) (some : 0 < size) where
   go-fits : (r : Reader) → Fits room L r → Fitting room L (r .message .id) (go r)
-  go-fits r f = record { fits = f; same = λ e n. refl; own = λ e n. absurd (let z : _≡_ {A = ℕ} 0 1 = cc in omega arith); guard = go-is-not }
+  go-fits r f = record { fits = f; same = λ e n. refl; own = λ e n. never e; guard = go-is-not }
 
   refuse-fits : (r : Reader) (k : ℕ) → k ≤ 14 → Fits room L r → Fitting room L (r .message .id) (refuse r k)
   refuse-fits r k small f = record {
     fits = f;
     same = λ e n. refl;
-    own = λ e n. absurd (let z : _≡_ {A = ℕ} 0 1 = cc in omega arith);
+    own = λ e n. never e;
     guard = λ e. let q : k ≡ 255 = cc in omega arith;
   }
 
@@ -627,7 +634,7 @@ module _ (room size L : ℕ) (some : 0 < size) where
         got = λ n. rw (own n) at lacks;
         room-for = λ n. rw (own n) at h;
         later = λ q n. let k = later n in record { before = k .before; empty = k .empty; short = k .short };
-        full = λ q n. absurd (let z : _≡_ {A = ℕ} 0 1 = cc in omega arith);
+        full = λ q n. never q;
         paying = λ q. record { some = omega arith; ends = omega arith; fits = h; own = own };
       }))
 
@@ -670,7 +677,7 @@ module _ (room size L : ℕ) (some : 0 < size) where
       tested (Fitting room L (r .message .id)) (eqb (r .chunk .header .«timestamp_field») maxField)
       (λ e.
       go-fits (at r (ExtendedTimestamp 0 4))
-      (fits-at room L r (ExtendedTimestamp 0 4) (λ q. later) (λ q n. absurd (let z : _≡_ {A = ℕ} 0 1 = cc in omega arith)) refl f))
+      (fits-at room L r (ExtendedTimestamp 0 4) (λ q. later) (λ q n. never q) refl f))
       (λ e. whole-fits r (r .chunk .header .«timestamp_field») f later)
 
   -- a field that the format has comes next
@@ -711,12 +718,12 @@ module _ (room size L : ℕ) (some : 0 < size) where
       let f : Fits room (r .chunk .header .«message_length») (paused r got .reader) = record {
         got = λ n. g;
         room-for = λ n. k;
-        later = λ q n. absurd (let z : _≡_ {A = ℕ} 0 1 = cc in omega arith);
-        full = λ q n. absurd (let z : _≡_ {A = ℕ} 0 1 = cc in omega arith);
-        paying = λ q. absurd (let z : _≡_ {A = ℕ} 0 1 = cc in omega arith);
+        later = λ q n. never q;
+        full = λ q n. never q;
+        paying = λ q. never q;
       }
       in
-      record { fits = rw e f; same = λ z n. absurd (let y : _≡_ {A = ℕ} 0 1 = cc in omega arith); own = λ z n. refl; guard = chunk-is-not }
+      record { fits = rw e f; same = λ z n. clash z e; own = λ z n. refl; guard = chunk-is-not }
 
   landed-fits : (r : Reader) → r .chunk .place < 64 → inPayload (r .stage) ≡ true → Fits room L r → Fitting room L (r .message .id) (landed r 1)
   unfolding landed
@@ -737,7 +744,7 @@ module _ (room size L : ℕ) (some : 0 < size) where
         got = λ n. let own = k .own n in omega arith;
         room-for = f .room-for;
         later = λ q n. let l = f .later (in-payload-past (r .stage) p) n in record { before = l .before; empty = l .empty; short = l .short };
-        full = λ q n. absurd (let z : _≡_ {A = ℕ} 0 1 = cc in omega arith);
+        full = λ q n. never q;
         paying = λ q. record { some = omega arith; ends = omega arith; fits = fits; own = k .own };
       }))
 
@@ -745,9 +752,9 @@ module _ (room size L : ℕ) (some : 0 < size) where
   byte-fits : (stage : Stage) (rows : List ℕ) (r : Reader) (b : ℕ) → r .stage ≡ stage → past stage ≡ true → inPayload stage ≡ false → Fits room L r
       → Fitting room L (r .message .id) (stepped stage room size rows r b)
   unfolding timestampField lengthField typeField streamField extendedField
-  byte-fits AtCsid rows r b e p q f = absurd (let z : _≡_ {A = ℕ} 0 1 = cc in omega arith)
-  byte-fits (CsidSecond a) rows r b e p q f = absurd (let z : _≡_ {A = ℕ} 0 1 = cc in omega arith)
-  byte-fits (CsidThird a c) rows r b e p q f = absurd (let z : _≡_ {A = ℕ} 0 1 = cc in omega arith)
+  byte-fits AtCsid rows r b e p q f = never p
+  byte-fits (CsidSecond a) rows r b e p q f = never p
+  byte-fits (CsidThird a c) rows r b e p q f = never p
   byte-fits (InitialTimestamp before lacks) rows r b e p q f =
       let n = gathered before b in
       let later = f .later (rw e) in
@@ -781,24 +788,22 @@ module _ (room size L : ℕ) (some : 0 < size) where
       tested (Fitting room L (r .message .id)) (leb lacks 1) (λ z. whole-fits r n f later)
       (λ z.
       go-fits (at r (ExtendedTimestamp n (lacks - 1)))
-      (fits-at room L r (ExtendedTimestamp n (lacks - 1)) (λ q. later) (λ q n. absurd (let y : _≡_ {A = ℕ} 0 1 = cc in omega arith)) refl f))
-  byte-fits MessagePayload rows r b e p q f = absurd (let z : _≡_ {A = ℕ} 0 1 = cc in omega arith)
+      (fits-at room L r (ExtendedTimestamp n (lacks - 1)) (λ q. later) (λ q n. never q) refl f))
+  byte-fits MessagePayload rows r b e p q f = never (sym q)
 
--- a stage before the end of the basic header is neither of a field nor of payload
-early-past : (stage : Stage) → past stage ≡ false → early stage ≡ true → ⊥
-early-past AtCsid p e = let z : _≡_ {A = ℕ} 0 1 = cc in omega arith
-early-past (CsidSecond a) p e = let z : _≡_ {A = ℕ} 0 1 = cc in omega arith
-early-past (CsidThird a b) p e = let z : _≡_ {A = ℕ} 0 1 = cc in omega arith
-early-past (InitialTimestamp before lacks) p e = let z : _≡_ {A = ℕ} 0 1 = cc in omega arith
-early-past (MessageLength before lacks) p e = let z : _≡_ {A = ℕ} 0 1 = cc in omega arith
-early-past MessageTypeId p e = let z : _≡_ {A = ℕ} 0 1 = cc in omega arith
-early-past (MessageStreamId before lacks) p e = let z : _≡_ {A = ℕ} 0 1 = cc in omega arith
-early-past (ExtendedTimestamp before lacks) p e = let z : _≡_ {A = ℕ} 0 1 = cc in omega arith
-early-past MessagePayload p e = let z : _≡_ {A = ℕ} 0 1 = cc in omega arith
+-- so is a stage of such a field
+early-past : (stage : Stage) → early stage ≡ true → past stage ≡ true
+early-past AtCsid e = e
+early-past (CsidSecond a) e = e
+early-past (CsidThird a b) e = e
+early-past (InitialTimestamp before lacks) e = refl
+early-past (MessageLength before lacks) e = refl
+early-past MessageTypeId e = refl
+early-past (MessageStreamId before lacks) e = refl
+early-past (ExtendedTimestamp before lacks) e = refl
+early-past MessagePayload e = refl
 
-payload-past : (stage : Stage) → past stage ≡ false → inPayload stage ≡ true → ⊥
-payload-past stage p e = let q = in-payload-past stage e in let z : _≡_ {A = ℕ} 0 1 = cc in omega arith
-
+-- a number that cannot be other than 0
 not-not : (m : ℕ) → (m ≢ 0 → ⊥) → m ≡ 0
 not-not m h = by-cases (eqb m 0) refl
   where
@@ -816,7 +821,7 @@ inside-tells format has-row unused own h = by-cases (isFull format) (isEmpty for
         → _≡_ {A = ℕ} (first (10 when (full && lacking) ∷ 11 when not own ∷ 12 when (not full && not empty) ∷ []) 0) 0
         → (own ≡ true) × (full ≡ false → empty ≡ true)
     by-cases true empty true own h = absurd (omega arith)
-    by-cases true empty false true h = (refl, λ z. absurd (let y : _≡_ {A = ℕ} 0 1 = cc in omega arith))
+    by-cases true empty false true h = (refl, λ z. never (sym z))
     by-cases true empty false false h = absurd (omega arith)
     by-cases false true lacking true h = (refl, λ z. refl)
     by-cases false false lacking true h = absurd (omega arith)
@@ -852,7 +857,7 @@ named-fits room size rows r format id some n p s f =
         record { before = same; empty = t .1; short = λ y. same }
         in
         timestamp-fits room size (lengthOf rows (r .message .id)) some r′
-        (record { got = f .got; room-for = f .room-for; later = λ q. later; full = λ q m. absurd (early-past (r .stage) p q); paying = λ q. absurd (payload-past (r .stage) p q) })
+        (record { got = f .got; room-for = f .room-for; later = λ q. later; full = λ q m. clash p (early-past (r .stage) q); paying = λ q. clash p (in-payload-past (r .stage) q) })
         later)
         (λ z. refuse-fits room size (lengthOf rows (r .message .id)) some r k (rw e at (basic-small format true (ltb (free rows) 64) (not (eqb (r .message .id) 0)) (eqb (r .message .id) id))) f)
     by-cases false g k e =
@@ -912,9 +917,9 @@ basic-fits room size rows r bytes kept p q some s f =
     (go-fits room size L some (at r kept) (record {
       got = f .got;
       room-for = f .room-for;
-      later = λ z n. absurd (let y : _≡_ {A = ℕ} 0 1 = cc in omega arith);
-      full = λ z n. absurd (early-past kept q z);
-      paying = λ z. absurd (payload-past kept q z);
+      later = λ z n. clash q z;
+      full = λ z n. clash q (early-past kept z);
+      paying = λ z. clash q (in-payload-past kept z);
     }))
     (λ id n. named-fits room size rows r format id some n p s f)
 
@@ -930,7 +935,7 @@ stepped-fits (MessageLength before lacks) room size rows r b e p some s f = byte
 stepped-fits MessageTypeId room size rows r b e p some s f = byte-fits room size _ some MessageTypeId rows r b e refl refl f
 stepped-fits (MessageStreamId before lacks) room size rows r b e p some s f = byte-fits room size _ some (MessageStreamId before lacks) rows r b e refl refl f
 stepped-fits (ExtendedTimestamp before lacks) room size rows r b e p some s f = byte-fits room size _ some (ExtendedTimestamp before lacks) rows r b e refl refl f
-stepped-fits MessagePayload room size rows r b e p some s f = absurd (let z : _≡_ {A = ℕ} 0 1 = cc in omega arith)
+stepped-fits MessagePayload room size rows r b e p some s f = never (sym p)
 
 step-fits : (d : ChunkDeserializer) (b : ℕ) → 0 < d .«max_chunk_size» → Sound (d .rows) (d .reader)
     → Fits (d .room) (lengthOf (d .rows) (d .reader .message .id)) (d .reader)
@@ -943,7 +948,7 @@ step-fits d b some s f = by-cases (inPayload (d .reader .stage)) (pays (d .room)
         (cond t (cond u (landed (d .reader) 1) (refuse (d .reader) 255)) (stepped (d .reader .stage) (d .room) (d .«max_chunk_size») (d .rows) (d .reader) b))
     by-cases true true e g =
         landed-fits (d .room) (d .«max_chunk_size») _ some (d .reader) (s .owns (in-payload-past (d .reader .stage) e) .inside) e f
-    by-cases true false e g = let h = paying-pays (d .room) _ (d .reader) (f .paying e) in absurd (let z : _≡_ {A = ℕ} 0 1 = cc in omega arith)
+    by-cases true false e g = clash g (paying-pays (d .room) _ (d .reader) (f .paying e))
     by-cases false u e g = stepped-fits (d .reader .stage) (d .room) (d .«max_chunk_size») (d .rows) (d .reader) b refl e some s f
 
 -- what holds of every decoder that calls can make
@@ -1023,7 +1028,7 @@ fresh-reached room closed h = record {
     long = length-replicate {A = ℕ} 384 0;
     distinct = λ i j h k n e. absurd (n (getD-replicate {A = ℕ} 384 (6 * i) 0 0 (omega arith)));
     begun = λ n. absurd (n refl);
-    owns = λ e. absurd (let z : _≡_ {A = ℕ} 0 1 = cc in omega arith);
+    owns = λ e. never e;
   };
   some = omega arith;
   fits = quiet-fits room _ _ refl refl;
