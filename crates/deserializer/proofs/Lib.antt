@@ -5,6 +5,8 @@ pub mod Naming
 pub mod Reading
 pub mod ReadsBack
 pub mod Progress
+pub mod Reached
+pub mod RowLaws
 pub mod Runs
 pub mod Table
 pub mod Turning
