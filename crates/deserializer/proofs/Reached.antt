@@ -1,4 +1,4 @@
--- What holds of every decoder that calls can make: a row is put only over its own id, or over a free row with an id that no row has, so no id occurs twice.
+-- What holds of every decoder that calls can make: a row is put over its own id, or over a free row with a new id, so no id occurs twice; and a message fits from its first chunk on, so the guard never answers.
 use Prim.Native.Nat.{ℕ, _+_, _-_, _*_, _%_, _≤_, _<_, min}
 use mathlib.Core.Path.{_≡_, refl, sym, ap, _∙_}
 use mathlib.Core.Logic.{_≢_}
@@ -80,7 +80,7 @@ use Rattle.deserializer.specs.Answer.{refused}
 use Rattle.deserializer.specs.Call.{Outcome, after, closes, end, next, outcome, putAt, run, stepOf, writes}
 use Rattle.deserializer.specs.Told.{between, fresh, made, maxRoom, maxSize, outcome as told-outcome, refused as no-size, sized, taken, told}
 use Rattle.deserializer.proofs.Runs.{pays-is}
-use Rattle.deserializer.proofs.RowLaws.{Alone, Distinct, alone-none, alone-there, distinct-put, find-none, find-tells, id-other, id-put, length-putRow, put-number}
+use Rattle.deserializer.proofs.RowLaws.{Distinct, alone-none, alone-there, distinct-put, find-none, find-tells, id-other, id-put, length-putRow, put-number}
 
 -- a test that tells both ways
 clash : {A : Type 0} {t : Bool} → t ≡ false → t ≡ true → A
@@ -196,9 +196,12 @@ module _ (rows : List ℕ) where
 
   landed-stays : (r : Reader) (n : ℕ) → HasRow rows (r .message .id) → HasRow rows (r .chunk .header .id) → StaysAt rows r (landed r n)
   unfolding landed
-  landed-stays r n h o = either rows _ _ (eqb (r .chunk .left - n) 0)
-      (either rows _ _ (ltb (r .message .got + n) (r .chunk .header .«message_length»)) (paused-stays (paid r (r .message .got + n) (r .chunk .left - n)) (r .message .got + n) o) (ended-stays (paid r (r .message .got + n) (r .chunk .left - n))))
-      (go-stays (paid r (r .message .got + n) (r .chunk .left - n)) h)
+  landed-stays r n h o =
+      let got = r .message .got + n in
+      let r′ = paid r got (r .chunk .left - n) in
+      either rows _ _ (eqb (r .chunk .left - n) 0)
+      (either rows _ _ (ltb got (r .chunk .header .«message_length»)) (paused-stays r′ got o) (ended-stays r′))
+      (go-stays r′ h)
 
   opens-stays : (size : ℕ) (r : Reader) (got : ℕ) → HasRow rows (r .message .id) → StaysAt rows r (opens size r got)
   unfolding opens
@@ -217,7 +220,8 @@ module _ (rows : List ℕ) where
   extended-stays : (room size : ℕ) (r : Reader) → HasRow rows (r .message .id) → StaysAt rows r (extendedNext room size r)
   unfolding extendedNext
   extended-stays room size r h =
-      either rows _ _ (eqb (r .chunk .header .«timestamp_field») maxField) (go-stays (at r (ExtendedTimestamp 0 4)) h) (whole-stays room size r (r .chunk .header .«timestamp_field») h)
+      either rows _ _ (eqb (r .chunk .header .«timestamp_field») maxField) (go-stays (at r (ExtendedTimestamp 0 4)) h)
+      (whole-stays room size r (r .chunk .header .«timestamp_field») h)
 
   stream-stays : (room size : ℕ) (r : Reader) → HasRow rows (r .message .id) → StaysAt rows r (streamNext room size r)
   unfolding streamNext
@@ -236,7 +240,8 @@ module _ (rows : List ℕ) where
   timestamp-stays room size r h = either rows _ _ (eqb (lacks r 0) 0) (length-stays room size r h) (go-stays (at r (InitialTimestamp 0 (lacks r 0))) h)
 
   -- a byte of a header, past its basic header
-  field-stays : (stage : Stage) (room size : ℕ) (r : Reader) (b : ℕ) → past stage ≡ true → HasRow rows (r .message .id) → StaysAt rows r (stepped stage room size rows r b)
+  field-stays : (stage : Stage) (room size : ℕ) (r : Reader) (b : ℕ) → past stage ≡ true → HasRow rows (r .message .id)
+      → StaysAt rows r (stepped stage room size rows r b)
   unfolding timestampField lengthField typeField streamField extendedField
   field-stays AtCsid room size r b p h = never p
   field-stays (CsidSecond a) room size r b p h = never p
@@ -271,7 +276,9 @@ csid-used P (b ∷ bs) more whole = by-cases (eqb (b % 64) 0) (eqb (b % 64) 1) r
     by-cases false false e rest = whole (b % 64) (eqb-false _ _ e)
 
 -- a chunk on a stream with no row is not refused only where a row is free, unless the message that has begun is its own
-claims-free : (format : ChunkHeaderFormat) (unused inside own : Bool) → (inside ≡ true → own ≡ true → ⊥) → basicRefusal format false unused inside own ≡ 0 → unused ≡ true
+claims-free : (format : ChunkHeaderFormat) (unused inside own : Bool) → (inside ≡ true → own ≡ true → ⊥)
+    → basicRefusal format false unused inside own ≡ 0
+    → unused ≡ true
 unfolding basicRefusal
 claims-free format unused inside own n h = by-cases (isFull format) (isEmpty format) unused inside own n h
   where
@@ -333,15 +340,24 @@ named-sound room size rows r format id s p n =
         at-row = let h = ltb-true _ _ f in record { inside = h; own = refl; used = rw (find-tells rows id h) n }
 
         stop : (t : Bool) → Leaves rows (cond t (known room size r format (rowAt rows (find rows id)) (find rows id)) (refuse r k))
-        stop true = stays-sound rows _ _ _ (s .long) (s .distinct) at-row (timestamp-stays rows room size (reader (r .stage) (current format (find rows id) (rowAt rows (find rows id)) (rowAt rows (find rows id)) 0) (r .message)) (s .begun))
+        stop true =
+            let row = rowAt rows (find rows id) in
+            let r′ = reader (r .stage) (current format (find rows id) row row 0) (r .message) in
+            stays-sound rows _ _ _ (s .long) (s .distinct) at-row (timestamp-stays rows room size r′ (s .begun))
         stop false = waits-sound rows r r p refl s
     by-cases false f k e = stop (eqb k 0) refl
       where
         stop : (t : Bool) → eqb k 0 ≡ t → Leaves rows (cond t (claims r format id (free rows)) (refuse r k))
         stop true z =
             let none = ltb-false (find rows id) 64 f in
-            let other : not (eqb (r .message .id) 0) ≡ true → eqb (r .message .id) id ≡ true → ⊥ = λ a b. let q = eqb-true (r .message .id) id b in let m : find rows (r .message .id) < 64 = s .begun (rw q n) in let o : find rows id < 64 = rw q at m in omega arith in
-            claims-sound rows r format id s n none (ltb-true _ _ (claims-free format (ltb (free rows) 64) (not (eqb (r .message .id) 0)) (eqb (r .message .id) id) other (e ∙ eqb-true k 0 z)))
+            let other : not (eqb (r .message .id) 0) ≡ true → eqb (r .message .id) id ≡ true → ⊥ = λ a b.
+            let q = eqb-true (r .message .id) id b in
+            let m : find rows (r .message .id) < 64 = s .begun (rw q n) in
+            let o : find rows id < 64 = rw q at m in
+            omega arith
+            in
+            let unused = claims-free format (ltb (free rows) 64) (not (eqb (r .message .id) 0)) (eqb (r .message .id) id) other (e ∙ eqb-true k 0 z) in
+            claims-sound rows r format id s n none (ltb-true _ _ unused)
         stop false z = waits-sound rows r r p refl s
 
 -- a byte of a basic header
@@ -363,7 +379,8 @@ field-sound stage room size rows r b p q s =
     stays-sound rows _ _ _ (s .long) (s .distinct) (s .owns p) (field-stays rows stage room size r b q (s .begun))
 
 -- a byte, by the stage
-stepped-sound : (stage : Stage) (room size : ℕ) (rows : List ℕ) (r : Reader) (b : ℕ) → r .stage ≡ stage → Sound rows r → Leaves rows (stepped stage room size rows r b)
+stepped-sound : (stage : Stage) (room size : ℕ) (rows : List ℕ) (r : Reader) (b : ℕ) → r .stage ≡ stage → Sound rows r
+    → Leaves rows (stepped stage room size rows r b)
 stepped-sound AtCsid room size rows r b e s = basic-sound room size rows r (b ∷ []) (CsidSecond b) s (rw e) refl
 stepped-sound (CsidSecond a) room size rows r b e s = basic-sound room size rows r (a ∷ b ∷ []) (CsidThird a b) s (rw e) refl
 stepped-sound (CsidThird a c) room size rows r b e s = basic-sound room size rows r (a ∷ c ∷ b ∷ []) (CsidThird a c) s (rw e) refl
@@ -534,7 +551,8 @@ unfolding firstRefusal
 first-fits format header number room h =
     by-cases (not (isFull format) && (eqb (header .«timestamp_field») maxField && ltb number maxField)) (ltb room (header .«message_length»)) refl h
   where
-    by-cases : (t u : Bool) → ltb room (header .«message_length») ≡ u → _≡_ {A = ℕ} (first (13 when t ∷ 14 when u ∷ []) 0) 0 → header .«message_length» ≤ room
+    by-cases : (t u : Bool) → ltb room (header .«message_length») ≡ u → _≡_ {A = ℕ} (first (13 when t ∷ 14 when u ∷ []) 0) 0
+        → header .«message_length» ≤ room
     by-cases true u e h = absurd (omega arith)
     by-cases false true e h = absurd (omega arith)
     by-cases false false e h = ltb-false _ _ e
@@ -620,7 +638,8 @@ module _ (room size L : ℕ) (some : 0 < size) where
   ended-fits r m = record { fits = quiet-fits room _ _ refl refl; same = λ e n. absurd (n refl); own = λ e n. absurd (n refl); guard = message-is-not }
 
   -- a payload opens
-  opens-fits : (r : Reader) (got : ℕ) → r .chunk .header .«message_length» ≤ room → (r .chunk .header .«message_length» ≢ 0 → got < r .chunk .header .«message_length»)
+  opens-fits : (r : Reader) (got : ℕ) → r .chunk .header .«message_length» ≤ room
+      → (r .chunk .header .«message_length» ≢ 0 → got < r .chunk .header .«message_length»)
       → (r .message .id ≢ 0 → r .chunk .header .«message_length» ≡ L) → (r .message .id ≢ 0 → Later L r)
       → Fitting room L (r .message .id) (opens size r got)
   unfolding opens
@@ -629,7 +648,8 @@ module _ (room size L : ℕ) (some : 0 < size) where
       tested (Fitting room L (r .message .id)) (eqb (c .header .«message_length») 0) (λ e. ended-fits r (r .message .id))
       (λ e.
       let lacks = g (eqb-false _ _ e) in
-      let r′ = reader MessagePayload (current (c .format) (c .place) (c .before) (c .header) (min size (c .header .«message_length» - got))) (unfinished (r .message .id) got) in
+      let left = min size (c .header .«message_length» - got) in
+      let r′ = reader MessagePayload (current (c .format) (c .place) (c .before) (c .header) left) (unfinished (r .message .id) got) in
       go-fits r′ (record {
         got = λ n. rw (own n) at lacks;
         room-for = λ n. rw (own n) at h;
@@ -681,7 +701,9 @@ module _ (room size L : ℕ) (some : 0 < size) where
       (λ e. whole-fits r (r .chunk .header .«timestamp_field») f later)
 
   -- a field that the format has comes next
-  field-fits : (r : Reader) (stage : Stage) (field : ℕ) → leb 3 (lastType field) ≡ false → inPayload stage ≡ false → eqb (lacks r field) 0 ≡ false → Fits room L r
+  field-fits : (r : Reader) (stage : Stage) (field : ℕ) → leb 3 (lastType field) ≡ false → inPayload stage ≡ false
+      → eqb (lacks r field) 0 ≡ false
+      → Fits room L r
       → (r .message .id ≢ 0 → Later L r)
       → Fitting room L (r .message .id) (go (at r stage))
   field-fits r stage field k p e f later =
@@ -842,6 +864,9 @@ named-fits room size rows r format id some n p s f =
         let k = inside-tells format u (ltb (free rows) 64) (eqb (r .message .id) id) (rw (ne-eqb (r .message .id) 0 m) at e) in
         (eqb-true _ _ (k .0), k .1)
 
+    small : (u : Bool) {k : ℕ} → basicRefusal format u (ltb (free rows) 64) (not (eqb (r .message .id) 0)) (eqb (r .message .id) id) ≡ k → k ≤ 14
+    small u e = rw e at (basic-small format u (ltb (free rows) 64) (not (eqb (r .message .id) 0)) (eqb (r .message .id) id))
+
     by-cases : (u : Bool) → ltb (find rows id) 64 ≡ u → (k : ℕ)
         → basicRefusal format u (ltb (free rows) 64) (not (eqb (r .message .id) 0)) (eqb (r .message .id) id) ≡ k
         → Fitting room (lengthOf rows (r .message .id)) (r .message .id)
@@ -857,9 +882,15 @@ named-fits room size rows r format id some n p s f =
         record { before = same; empty = t .1; short = λ y. same }
         in
         timestamp-fits room size (lengthOf rows (r .message .id)) some r′
-        (record { got = f .got; room-for = f .room-for; later = λ q. later; full = λ q m. clash p (early-past (r .stage) q); paying = λ q. clash p (in-payload-past (r .stage) q) })
+        (record {
+          got = f .got;
+          room-for = f .room-for;
+          later = λ q. later;
+          full = λ q m. clash p (early-past (r .stage) q);
+          paying = λ q. clash p (in-payload-past (r .stage) q);
+        })
         later)
-        (λ z. refuse-fits room size (lengthOf rows (r .message .id)) some r k (rw e at (basic-small format true (ltb (free rows) 64) (not (eqb (r .message .id) 0)) (eqb (r .message .id) id))) f)
+        (λ z. refuse-fits room size (lengthOf rows (r .message .id)) some r k (small true e) f)
     by-cases false g k e =
         tested (Fitting room (lengthOf rows (r .message .id)) (r .message .id)) (eqb k 0)
         (λ z.
@@ -876,7 +907,7 @@ named-fits room size rows r format id some n p s f =
           own = λ y m. absurd (outside m);
           guard = go-is-not;
         })
-        (λ z. refuse-fits room size (lengthOf rows (r .message .id)) some r k (rw e at (basic-small format false (ltb (free rows) 64) (not (eqb (r .message .id) 0)) (eqb (r .message .id) id))) f)
+        (λ z. refuse-fits room size (lengthOf rows (r .message .id)) some r k (small false e) f)
 
 -- the row of an id is where it is found
 find-distinct : (rows : List ℕ) (id p : ℕ) → Distinct rows → p < 64 → id ≢ 0 → getD rows (6 * p) 0 ≡ id → find rows id ≡ p
@@ -900,14 +931,17 @@ fitting-fits room rows m s l = by-cases (ltb (s .place) 64) refl
         rw e (fits-same room (s .row .«message_length») (lengthOf rows′ (s .reader .message .id)) (s .reader)
         (λ n.
         let own = f .own e n in
-        let at-place : find rows′ (s .reader .message .id) ≡ s .place = find-distinct rows′ (s .reader .message .id) (s .place) d h n (id-put rows (s .place) (s .row) l h ∙ sym own) in
+        let here = id-put rows (s .place) (s .row) l h ∙ sym own in
+        let at-place : find rows′ (s .reader .message .id) ≡ s .place = find-distinct rows′ (s .reader .message .id) (s .place) d h n here in
         rw at-place (sym (put-number rows (s .place) 3 (s .row) l h (omega arith)))) g)
     by-cases false e k f =
         let g : Fits room (lengthOf rows m) (s .reader) = rw e at (f .fits) in
         rw e (fits-same room (lengthOf rows m) (lengthOf rows (s .reader .message .id)) (s .reader) (λ n. rw (f .same e n)) g)
 
 -- a byte of a basic header
-basic-fits : (room size : ℕ) (rows : List ℕ) (r : Reader) (bytes : List ℕ) (kept : Stage) → past (r .stage) ≡ false → past kept ≡ false → 0 < size → Sound rows r
+basic-fits : (room size : ℕ) (rows : List ℕ) (r : Reader) (bytes : List ℕ) (kept : Stage) → past (r .stage) ≡ false → past kept ≡ false
+    → 0 < size
+    → Sound rows r
     → Fits room (lengthOf rows (r .message .id)) r
     → Fitting room (lengthOf rows (r .message .id)) (r .message .id) (basic room size rows r bytes kept)
 basic-fits room size rows r bytes kept p q some s f =
