@@ -1,11 +1,12 @@
+pub mod Accepts
 pub mod Cut
 pub mod Fields
 pub mod Identifying
 pub mod Naming
-pub mod Reading
-pub mod ReadsBack
 pub mod Progress
 pub mod Reached
+pub mod Reading
+pub mod ReadsBack
 pub mod RowLaws
 pub mod Runs
 pub mod Table

@@ -430,7 +430,7 @@ early (ExtendedTimestamp before lacks) = false
 early MessagePayload = false
 
 -- the length that the row of an id says
-abbrev lengthOf : List ℕ → ℕ → ℕ
+abbrev pub lengthOf : List ℕ → ℕ → ℕ
 lengthOf rows id = getD rows (6 * find rows id + 3) 0
 
 -- a chunk inside a message of length L: its row says L, and without a full header so does the chunk
@@ -546,7 +546,7 @@ has-field TimeDeltaOnly field k h e = never (h refl)
 has-field Empty field k h e = absurd (let z : fieldLength 3 field ≡ 0 = rw k in eqb-false (fieldLength 3 field) 0 e z)
 
 -- a first chunk that is not refused fits
-first-fits : (format : ChunkHeaderFormat) (header : Row) (number room : ℕ) → firstRefusal format header number room ≡ 0 → header .«message_length» ≤ room
+pub first-fits : (format : ChunkHeaderFormat) (header : Row) (number room : ℕ) → firstRefusal format header number room ≡ 0 → header .«message_length» ≤ room
 unfolding firstRefusal
 first-fits format header number room h =
     by-cases (not (isFull format) && (eqb (header .«timestamp_field») maxField && ltb number maxField)) (ltb room (header .«message_length»)) refl h
@@ -558,7 +558,7 @@ first-fits format header number room h =
     by-cases false false e h = ltb-false _ _ e
 
 -- a full header inside a message that is not refused says the message's length
-later-length : (format : ChunkHeaderFormat) (message header : Row) (number : ℕ) → laterRefusal format message header number ≡ 0 → isFull format ≡ true
+pub later-length : (format : ChunkHeaderFormat) (message header : Row) (number : ℕ) → laterRefusal format message header number ≡ 0 → isFull format ≡ true
     → header .«message_length» ≡ message .«message_length»
 unfolding laterRefusal
 later-length format message header number h f =
@@ -834,7 +834,7 @@ not-not m h = by-cases (eqb m 0) refl
     by-cases false e = absurd (h (eqb-false m 0 e))
 
 -- inside a message a basic header that is not refused is of its own stream, and full or empty
-inside-tells : (format : ChunkHeaderFormat) (has-row unused own : Bool) → basicRefusal format has-row unused true own ≡ 0
+pub inside-tells : (format : ChunkHeaderFormat) (has-row unused own : Bool) → basicRefusal format has-row unused true own ≡ 0
     → (own ≡ true) × (isFull format ≡ false → isEmpty format ≡ true)
 unfolding basicRefusal
 inside-tells format has-row unused own h = by-cases (isFull format) (isEmpty format) (not has-row && not unused) own h
