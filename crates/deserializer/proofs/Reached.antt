@@ -62,16 +62,16 @@ use Rattle.deserializer.specs.Machine.{
   refuse,
   stepped,
   streamed,
-  swapped,
-  timed,
-  typed,
-  unfinished,
   streamField,
   streamNext,
+  swapped,
+  timed,
   timestampField,
   timestampNext,
+  typed,
   typeField,
   typeNext,
+  unfinished,
   whole,
 }
 use Rattle.deserializer.specs.Meaning.{basicRefusal, firstRefusal, firstTime, isEmpty, isFull, laterRefusal, maxField, repeats}
@@ -418,7 +418,7 @@ step-sound d b s = by-cases (inPayload (d .reader .stage)) (pays (d .room) (d .r
     by-cases false u e = stepped-sound (d .reader .stage) (d .room) (d .«max_chunk_size») (d .rows) (d .reader) b refl s
 
 -- the fields that a chunk inside a message has only in a full header
-abbrev early : Stage → Bool
+abbrev pub early : Stage → Bool
 early AtCsid = false
 early (CsidSecond a) = false
 early (CsidThird a b) = false
