@@ -20,60 +20,10 @@ use Rattle.deserializer.specs.declared.reader.Event.{Event}
 use Rattle.deserializer.specs.declared.reader.Event.the-variants.{Go, Chunk, Message, Refuse}
 use Rattle.deserializer.specs.declared.reader.Reader.{Reader}
 use Rattle.deserializer.specs.declared.reader.Stage.{Stage}
-use Rattle.deserializer.specs.declared.reader.Stage.the-variants.{
-  Csid as AtCsid,
-  CsidSecond,
-  CsidThird,
-  InitialTimestamp,
-  MessageLength,
-  MessageTypeId,
-  MessageStreamId,
-  ExtendedTimestamp,
-  MessagePayload,
-}
+use Rattle.deserializer.specs.declared.reader.Stage.the-variants.{Csid as AtCsid, CsidSecond, CsidThird, InitialTimestamp, MessageLength, MessageTypeId, MessageStreamId, ExtendedTimestamp, MessagePayload}
 use Rattle.deserializer.specs.declared.reader.Stepped.{Stepped}
 use Rattle.deserializer.specs.declared.rows.Row.{Row}
-use Rattle.deserializer.specs.Machine.{
-  at,
-  basic,
-  basicBy,
-  claims,
-  current,
-  ended,
-  extendedField,
-  extendedNext,
-  fielded,
-  gathered,
-  go,
-  headed,
-  inPayload,
-  known,
-  lacks,
-  landed,
-  lengthed,
-  lengthField,
-  lengthNext,
-  named,
-  opens,
-  paid,
-  paused,
-  pays,
-  reader,
-  refuse,
-  stepped,
-  streamed,
-  streamField,
-  streamNext,
-  swapped,
-  timed,
-  timestampField,
-  timestampNext,
-  typed,
-  typeField,
-  typeNext,
-  unfinished,
-  whole,
-}
+use Rattle.deserializer.specs.Machine.{at, basic, basicBy, claims, current, ended, extendedField, extendedNext, fielded, gathered, go, headed, inPayload, known, lacks, landed, lengthed, lengthField, lengthNext, named, opens, paid, paused, pays, reader, refuse, stepped, streamed, streamField, streamNext, swapped, timed, timestampField, timestampNext, typed, typeField, typeNext, unfinished, whole}
 use Rattle.deserializer.specs.Meaning.{basicRefusal, firstRefusal, firstTime, isEmpty, isFull, laterRefusal, maxField, repeats}
 use Rattle.deserializer.specs.Rows.{claimed, find, free, putRow, rowAt}
 use Rattle.deserializer.specs.Answer.{refused}

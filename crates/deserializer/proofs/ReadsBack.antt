@@ -1,6 +1,6 @@
 -- The machine reads back a whole chunk: its basic header names the row, its header settles the row, its payload fills the buffer.
 use Prim.Native.Nat.{ℕ, _+_, _-_, _≤_, _<_}
-use mathlib.Core.Path.{_≡_, refl, sym, ap, _∙_}
+use mathlib.Core.Path.{_≡_, refl, _∙_}
 use mathlib.Core.Logic.{_≢_}
 use mathlib.Core.Bool.{Bool, true, false, cond, not}
 use mathlib.Core.List.{List, [], _∷_, _++_, append-assoc}
@@ -39,6 +39,16 @@ claiming d id = record {
   reader = d .reader;
   rows = cond (ltb (find (d .rows) id) 64) (d .rows) (putRow (d .rows) (free (d .rows)) (claimed id));
 }
+
+-- the parts of a chunk before its payload
+abbrev pub basicOf : Chunk → List ℕ
+basicOf c = basicBytes (c .form) (format (c .header)) (c .id)
+
+abbrev pub headOf : Chunk → List ℕ
+headOf c = headerBytes (c .header)
+
+abbrev pub extendedOf : Chunk → List ℕ
+extendedOf c = extendedBytes (c .extended)
 
 no-elements : (xs : List ℕ) → length xs ≡ 0 → xs ≡ []
 no-elements [] h = refl
@@ -89,7 +99,7 @@ module _ (d : ChunkDeserializer) (c : Chunk) (payload : List ℕ) where
   abbrev reading : Stage → Reader
   reading st = reader st (current (formatFor (c .header)) (placeOf (d .rows) (c .id)) (row d c) (row d c) 0) (d .reader .message)
 
-  abbrev pub read : Stage → Reader
+  abbrev read : Stage → Reader
   read st = reader st (current (formatFor (c .header)) (placeOf (d .rows) (c .id)) (row d c) (header d c) 0) (d .reader .message)
 
   begins : (st : Stage) (m : ℕ) (rest : List ℕ) → basicRefused d c ≡ 0 → (ltb (find (d .rows) (c .id)) 64 ≡ false → formatFor (c .header) ≡ Full)
@@ -191,45 +201,36 @@ module _ (d : ChunkDeserializer) (c : Chunk) (payload : List ℕ) where
           ∙ bulk (c .payload) rest (after (claiming d (c .id)) (go paying)) payload n refl (omega (arith, e, b .0)) (omega (arith, e)) (b .1)
           ∙ (rw (lands e))
 
-  abbrev pub basicOf : List ℕ
-  basicOf = basicBytes (c .form) (format (c .header)) (c .id)
-
-  abbrev pub headOf : List ℕ
-  headOf = headerBytes (c .header)
-
-  abbrev pub extendedOf : List ℕ
-  extendedOf = extendedBytes (c .extended)
-
-  parts : (rest : List ℕ) → chunkBytes c ++ rest ≡ basicOf ++ (headOf ++ (extendedOf ++ (c .payload ++ rest)))
+  parts : (rest : List ℕ) → chunkBytes c ++ rest ≡ basicOf c ++ (headOf c ++ (extendedOf c ++ (c .payload ++ rest)))
   unfolding chunkBytes
   parts rest = simp append-assoc
 
-  parts-length : (n : ℕ) → n + length basicOf + length headOf + length extendedOf + length (c .payload) ≡ n + length (chunkBytes c)
+  parts-length : (n : ℕ) → n + length (basicOf c) + length (headOf c) + length (extendedOf c) + length (c .payload) ≡ n + length (chunkBytes c)
   unfolding chunkBytes
   parts-length n = simp length-append (omega arith)
 
   -- to the last byte of the basic header
   basic-back : (n : ℕ) (rest : List ℕ) → d .reader .stage ≡ Csid → FormFits (c .form) (c .id)
-      → Reaches (run (basicOf ++ rest) d payload n) d (λ r. named (d .room) (d .«max_chunk_size») (d .rows) r (formatFor (c .header)) (c .id)) (d .reader) payload
-      (n + length basicOf) rest
+      → Reaches (run (basicOf c ++ rest) d payload n) d (λ r. named (d .room) (d .«max_chunk_size») (d .rows) r (formatFor (c .header)) (c .id)) (d .reader) payload
+      (n + length (basicOf c)) rest
   basic-back n rest s fits =
       rw (put-between d s) at (rw (type-for (c .header)) at (basic-read d (d .reader) (formatFor (c .header)) payload n rest (c .form) (c .id) fits))
 
   -- to the last byte of the header
   headed-back : (n : ℕ) (rest : List ℕ) → d .reader .stage ≡ Csid → HeadFits d c → basicRefused d c ≡ 0 → Rowed d c
-      → Reaches (run (basicOf ++ (headOf ++ (extendedOf ++ rest))) d payload n) (claiming d (c .id))
-      (λ r. whole (d .room) (d .«max_chunk_size») r (says (c .extended) (header d c))) (read Csid) payload (n + length basicOf + length headOf + length extendedOf) rest
+      → Reaches (run (basicOf c ++ (headOf c ++ (extendedOf c ++ rest))) d payload n) (claiming d (c .id))
+      (λ r. whole (d .room) (d .«max_chunk_size») r (says (c .extended) (header d c))) (read Csid) payload (n + length (basicOf c) + length (headOf c) + length (extendedOf c)) rest
   headed-back n rest s fits k f =
-      let n1 = n + length basicOf in
-      let n2 = n1 + length headOf in
-      let b = basic-back n (headOf ++ (extendedOf ++ rest)) s (fits .form) in
-      let h = header-read (claiming d (c .id)) payload (b .stage) (placeOf (d .rows) (c .id)) (row d c) (row d c) 0 (d .reader .message) (c .header) n1 (extendedOf ++ rest) (fits .fields) in
+      let n1 = n + length (basicOf c) in
+      let n2 = n1 + length (headOf c) in
+      let b = basic-back n (headOf c ++ (extendedOf c ++ rest)) s (fits .form) in
+      let h = header-read (claiming d (c .id)) payload (b .stage) (placeOf (d .rows) (c .id)) (row d c) (row d c) 0 (d .reader .message) (c .header) n1 (extendedOf c ++ rest) (fits .fields) in
       let x = extended-read (claiming d (c .id)) payload (c .extended) (read Csid) (h .stage) n2 rest (fits .extended) in
       record {
         stage = x .stage;
         reached =
             b .reached
-            ∙ begins (b .stage) n1 (headOf ++ (extendedOf ++ rest)) k f
+            ∙ begins (b .stage) n1 (headOf c ++ (extendedOf c ++ rest)) k f
             ∙ h .reached
             ∙ x .reached;
       }
@@ -239,7 +240,7 @@ module _ (d : ChunkDeserializer) (c : Chunk) (payload : List ℕ) where
       → run (chunkBytes c ++ rest) d payload n ≡ then (claiming d (c .id)) (finished d c) (sets payload (got d c) (c .payload)) (n + length (chunkBytes c)) rest
   reads-back n rest s fits k j f w =
       let h = headed-back n (c .payload ++ rest) s (fits .head) k f in
-      let n3 = n + length basicOf + length headOf + length extendedOf in
+      let n3 = n + length (basicOf c) + length (headOf c) + length (extendedOf c) in
       (rw (parts rest))
       ∙ h .reached
       ∙ (rw (settles (h .stage) j))
@@ -248,7 +249,7 @@ module _ (d : ChunkDeserializer) (c : Chunk) (payload : List ℕ) where
 
   -- a chunk that is refused at the end of its basic header, whatever follows
   pub refused-basic : (n : ℕ) (rest : List ℕ) → d .reader .stage ≡ Csid → FormFits (c .form) (c .id) → basicRefused d c ≢ 0
-      → Reaches (run (basicOf ++ rest) d payload n) d (λ r. refuse r (basicRefused d c)) (d .reader) payload (n + length basicOf) rest
+      → Reaches (run (basicOf c ++ rest) d payload n) d (λ r. refuse r (basicRefused d c)) (d .reader) payload (n + length (basicOf c)) rest
   refused-basic n rest s fits k =
       let b = basic-back n rest s fits in
       record {
@@ -260,8 +261,8 @@ module _ (d : ChunkDeserializer) (c : Chunk) (payload : List ℕ) where
 
   -- a chunk that is refused at the end of its header, extended time included, whatever follows
   pub refused-header : (n : ℕ) (rest : List ℕ) → d .reader .stage ≡ Csid → HeadFits d c → basicRefused d c ≡ 0 → headerRefused d c ≢ 0 → Rowed d c
-      → Reaches (run (basicOf ++ (headOf ++ (extendedOf ++ rest))) d payload n) (claiming d (c .id)) (λ r. refuse r (headerRefused d c)) (read Csid) payload
-      (n + length basicOf + length headOf + length extendedOf) rest
+      → Reaches (run (basicOf c ++ (headOf c ++ (extendedOf c ++ rest))) d payload n) (claiming d (c .id)) (λ r. refuse r (headerRefused d c)) (read Csid) payload
+      (n + length (basicOf c) + length (headOf c) + length (extendedOf c)) rest
   refused-header n rest s fits k j f =
       let h = headed-back n rest s fits k f in
       record { stage = h .stage; reached = h .reached ∙ (rw (settles-not (h .stage) j)) }
