@@ -23,7 +23,8 @@ use Rattle.deserializer.specs.Machine.{refuse}
 use Rattle.deserializer.specs.Meaning.{basicRefusal, firstRefusal, isEmpty, isFull, laterRefusal}
 use Rattle.deserializer.specs.Rows.{find, free}
 use Rattle.deserializer.proofs.Fields.{Reaches}
-use Rattle.deserializer.proofs.Reached.{Reached, first-fits, inside-tells, later-length, lengthOf}
+use Rattle.deserializer.proofs.Fitting.{first-fits, inside-tells, later-length, lengthOf}
+use Rattle.deserializer.proofs.Reached.{Reached}
 use Rattle.deserializer.proofs.ReadsBack.{Rowed, Within, basicOf, claiming, extendedOf, finished, headOf, reads-back, refused-basic, refused-header}
 use Rattle.deserializer.proofs.Runs.{then}
 
