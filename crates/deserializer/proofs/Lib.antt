@@ -1,5 +1,7 @@
+pub mod Accepts
 pub mod Cut
 pub mod Fields
+pub mod Fitting
 pub mod Identifying
 pub mod Naming
 pub mod Progress
@@ -8,5 +10,6 @@ pub mod Reading
 pub mod ReadsBack
 pub mod RowLaws
 pub mod Runs
+pub mod Sound
 pub mod Table
 pub mod Turning

@@ -1,6 +1,6 @@
 -- The machine reads back a whole chunk: its basic header names the row, its header settles the row, its payload fills the buffer.
 use Prim.Native.Nat.{ℕ, _+_, _-_, _≤_, _<_}
-use mathlib.Core.Path.{_≡_, refl, sym, ap, _∙_}
+use mathlib.Core.Path.{_≡_, refl, _∙_}
 use mathlib.Core.Logic.{_≢_}
 use mathlib.Core.Bool.{Bool, true, false, cond, not}
 use mathlib.Core.List.{List, [], _∷_, _++_, append-assoc}
@@ -20,7 +20,7 @@ use Rattle.deserializer.specs.declared.reader.Stage.{Stage}
 use Rattle.deserializer.specs.declared.reader.Stage.the-variants.{Csid, MessagePayload}
 use Rattle.deserializer.specs.declared.reader.Stepped.{Stepped}
 use Rattle.deserializer.specs.Call.{after, run}
-use Rattle.deserializer.specs.Chunk.{ChunkFits, basicRefused, formatFor, got, header, headerRefused, inside, left, placeOf, row, says, stored}
+use Rattle.deserializer.specs.Chunk.{ChunkFits, FormFits, HeadFits, basicRefused, formatFor, got, header, headerRefused, inside, left, placeOf, row, says, stored}
 use Rattle.deserializer.specs.Machine.{at, current, go, landed, named, opens, reader, refuse, timestampNext, unfinished, whole}
 use Rattle.deserializer.specs.Meaning.{basicRefusal, firstRefusal, laterRefusal}
 use Rattle.deserializer.specs.Rows.{claimed, find, free, putRow}
@@ -39,6 +39,16 @@ claiming d id = record {
   reader = d .reader;
   rows = cond (ltb (find (d .rows) id) 64) (d .rows) (putRow (d .rows) (free (d .rows)) (claimed id));
 }
+
+-- the parts of a chunk before its payload
+abbrev pub basicOf : Chunk → List ℕ
+basicOf c = basicBytes (c .form) (format (c .header)) (c .id)
+
+abbrev pub headOf : Chunk → List ℕ
+headOf c = headerBytes (c .header)
+
+abbrev pub extendedOf : Chunk → List ℕ
+extendedOf c = extendedBytes (c .extended)
 
 no-elements : (xs : List ℕ) → length xs ≡ 0 → xs ≡ []
 no-elements [] h = refl
@@ -62,6 +72,27 @@ unfolding basicRefusal
 has-free inside own true h = refl
 has-free true own false h = absurd (let z : 10 ≡ 0 = h in omega arith)
 has-free false own false h = absurd (let z : 10 ≡ 0 = h in omega arith)
+
+module _ (d : ChunkDeserializer) (c : Chunk) where
+  -- what the last byte of the chunk does: the chunk ends before its message does, or with it, and its row is stored
+  abbrev pub finished : Stepped
+  finished =
+      let done = got d c + length (c .payload) in
+      let goes-on = ltb done (header d c .«message_length») in
+      record {
+        reader = reader Csid (current (formatFor (c .header)) (placeOf (d .rows) (c .id)) (row d c) (stored d c) 0) (cond goes-on (unfinished (stored d c .id) done) (unfinished 0 0));
+        event = cond goes-on ChunkEnds Message;
+        place = placeOf (d .rows) (c .id);
+        row = stored d c;
+      }
+
+  -- a chunk of a message that lacks a byte ends within the room
+  abbrev pub Within : Type 0
+  Within = header d c .«message_length» ≢ 0 → (0 < left d c) × (got d c + left d c ≤ d .room)
+
+  -- a chunk is not of a stream without a row, except for type 0
+  abbrev pub Rowed : Type 0
+  Rowed = ltb (find (d .rows) (c .id)) 64 ≡ false → formatFor (c .header) ≡ Full
 
 module _ (d : ChunkDeserializer) (c : Chunk) (payload : List ℕ) where
   -- the reader at the last byte of the basic header, of the header, and in the payload
@@ -118,20 +149,8 @@ module _ (d : ChunkDeserializer) (c : Chunk) (payload : List ℕ) where
           let j : laterRefusal (formatFor (c .header)) (row d c) (header d c) (says (c .extended) (header d c)) ≢ 0 = rw e at k in
           rw (e, ne-eqb _ 0 j)
 
-  -- what the last byte of the chunk does: the chunk ends before its message does, or with it, and its row is stored
-  abbrev pub finished : Stepped
-  finished =
-      let done = got d c + length (c .payload) in
-      let goes-on = ltb done (header d c .«message_length») in
-      record {
-        reader = reader Csid (current (formatFor (c .header)) (placeOf (d .rows) (c .id)) (row d c) (stored d c) 0) (cond goes-on (unfinished (stored d c .id) done) (unfinished 0 0));
-        event = cond goes-on ChunkEnds Message;
-        place = placeOf (d .rows) (c .id);
-        row = stored d c;
-      }
-
   -- a message of no bytes ends with its header
-  no-bytes : (st : Stage) → header d c .«message_length» ≡ 0 → opens (d .«max_chunk_size») (settled st) (got d c) ≡ finished
+  no-bytes : (st : Stage) → header d c .«message_length» ≡ 0 → opens (d .«max_chunk_size») (settled st) (got d c) ≡ finished d c
   unfolding opens
   no-bytes st e =
       let f : ltb (got d c + length (c .payload)) (header d c .«message_length») ≡ false =
@@ -147,25 +166,21 @@ module _ (d : ChunkDeserializer) (c : Chunk) (payload : List ℕ) where
   unfolding opens
   opens-payload st e = rw (ne-eqb (header d c .«message_length») 0 e)
 
-  lands : length (c .payload) ≡ left d c → landed paying (length (c .payload)) ≡ finished
+  lands : length (c .payload) ≡ left d c → landed paying (length (c .payload)) ≡ finished d c
   unfolding landed
   lands e = by-rest (ltb (got d c + length (c .payload)) (header d c .«message_length»)) refl
     where
       none : left d c - length (c .payload) ≡ 0
       none = omega (arith, e)
 
-      by-rest : (t : Bool) → ltb (got d c + length (c .payload)) (header d c .«message_length») ≡ t → landed paying (length (c .payload)) ≡ finished
+      by-rest : (t : Bool) → ltb (got d c + length (c .payload)) (header d c .«message_length») ≡ t → landed paying (length (c .payload)) ≡ finished d c
       by-rest true q = rw (none, q)
       by-rest false q = rw (none, q)
 
-  -- a chunk of a message that lacks a byte ends within the room
-  abbrev pub Within : Type 0
-  Within = header d c .«message_length» ≢ 0 → (0 < left d c) × (got d c + left d c ≤ d .room)
-
   -- the payload, from the last byte of the header on
-  fills : (st : Stage) (n : ℕ) (rest : List ℕ) → length (c .payload) ≡ left d c → Within
+  fills : (st : Stage) (n : ℕ) (rest : List ℕ) → length (c .payload) ≡ left d c → Within d c
       → then (claiming d (c .id)) (opens (d .«max_chunk_size») (settled st) (got d c)) payload n (c .payload ++ rest)
-      ≡ then (claiming d (c .id)) finished (sets payload (got d c) (c .payload)) (n + length (c .payload)) rest
+      ≡ then (claiming d (c .id)) (finished d c) (sets payload (got d c) (c .payload)) (n + length (c .payload)) rest
   unfolding after
   fills st n rest e w = by-length (eqb (header d c .«message_length») 0) refl
     where
@@ -174,7 +189,7 @@ module _ (d : ChunkDeserializer) (c : Chunk) (payload : List ℕ) where
 
       by-length : (t : Bool) → eqb (header d c .«message_length») 0 ≡ t
           → then (claiming d (c .id)) (opens (d .«max_chunk_size») (settled st) (got d c)) payload n (c .payload ++ rest)
-          ≡ then (claiming d (c .id)) finished (sets payload (got d c) (c .payload)) (n + length (c .payload)) rest
+          ≡ then (claiming d (c .id)) (finished d c) (sets payload (got d c) (c .payload)) (n + length (c .payload)) rest
       by-length true t =
           let q = eqb-true (header d c .«message_length») 0 t in
           let z : c .payload ≡ [] = no-elements (c .payload) (empty q) in
@@ -186,53 +201,46 @@ module _ (d : ChunkDeserializer) (c : Chunk) (payload : List ℕ) where
           ∙ bulk (c .payload) rest (after (claiming d (c .id)) (go paying)) payload n refl (omega (arith, e, b .0)) (omega (arith, e)) (b .1)
           ∙ (rw (lands e))
 
-  abbrev basicOf : List ℕ
-  basicOf = basicBytes (c .form) (typeOf (formatFor (c .header))) (c .id)
-
-  abbrev headOf : List ℕ
-  headOf = headerBytes (c .header)
-
-  abbrev extendedOf : List ℕ
-  extendedOf = extendedBytes (c .extended)
-
-  parts : (rest : List ℕ) → chunkBytes c ++ rest ≡ basicOf ++ (headOf ++ (extendedOf ++ (c .payload ++ rest)))
+  parts : (rest : List ℕ) → chunkBytes c ++ rest ≡ basicOf c ++ (headOf c ++ (extendedOf c ++ (c .payload ++ rest)))
   unfolding chunkBytes
-  parts rest = simp (type-for (c .header), append-assoc)
+  parts rest = simp append-assoc
 
-  parts-length : (n : ℕ) → n + length basicOf + length headOf + length extendedOf + length (c .payload) ≡ n + length (chunkBytes c)
+  parts-length : (n : ℕ) → n + length (basicOf c) + length (headOf c) + length (extendedOf c) + length (c .payload) ≡ n + length (chunkBytes c)
   unfolding chunkBytes
-  parts-length n = simp (type-for (c .header), length-append) (omega arith)
+  parts-length n = simp length-append (omega arith)
 
-  -- a chunk is not of a stream without a row, except for type 0
-  abbrev pub Rowed : Type 0
-  Rowed = ltb (find (d .rows) (c .id)) 64 ≡ false → formatFor (c .header) ≡ Full
+  -- to the last byte of the basic header
+  basic-back : (n : ℕ) (rest : List ℕ) → d .reader .stage ≡ Csid → FormFits (c .form) (c .id)
+      → Reaches (run (basicOf c ++ rest) d payload n) d (λ r. named (d .room) (d .«max_chunk_size») (d .rows) r (formatFor (c .header)) (c .id)) (d .reader) payload
+      (n + length (basicOf c)) rest
+  basic-back n rest s fits =
+      rw (put-between d s) at (rw (type-for (c .header)) at (basic-read d (d .reader) (formatFor (c .header)) payload n rest (c .form) (c .id) fits))
 
   -- to the last byte of the header
-  headed-back : (n : ℕ) (rest : List ℕ) → d .reader .stage ≡ Csid → ChunkFits d c → basicRefused d c ≡ 0 → Rowed
-      → Reaches (run (basicOf ++ (headOf ++ (extendedOf ++ rest))) d payload n) (claiming d (c .id))
-      (λ r. whole (d .room) (d .«max_chunk_size») r (says (c .extended) (header d c))) (read Csid) payload (n + length basicOf + length headOf + length extendedOf) rest
+  headed-back : (n : ℕ) (rest : List ℕ) → d .reader .stage ≡ Csid → HeadFits d c → basicRefused d c ≡ 0 → Rowed d c
+      → Reaches (run (basicOf c ++ (headOf c ++ (extendedOf c ++ rest))) d payload n) (claiming d (c .id))
+      (λ r. whole (d .room) (d .«max_chunk_size») r (says (c .extended) (header d c))) (read Csid) payload (n + length (basicOf c) + length (headOf c) + length (extendedOf c)) rest
   headed-back n rest s fits k f =
-      let n1 = n + length basicOf in
-      let n2 = n1 + length headOf in
-      let b = basic-read d (d .reader) (formatFor (c .header)) payload n (headOf ++ (extendedOf ++ rest)) (c .form) (c .id) (fits .form) in
-      let h = header-read (claiming d (c .id)) payload (b .stage) (placeOf (d .rows) (c .id)) (row d c) (row d c) 0 (d .reader .message) (c .header) n1 (extendedOf ++ rest) (fits .header-fits) in
+      let n1 = n + length (basicOf c) in
+      let n2 = n1 + length (headOf c) in
+      let b = basic-back n (headOf c ++ (extendedOf c ++ rest)) s (fits .form) in
+      let h = header-read (claiming d (c .id)) payload (b .stage) (placeOf (d .rows) (c .id)) (row d c) (row d c) 0 (d .reader .message) (c .header) n1 (extendedOf c ++ rest) (fits .fields) in
       let x = extended-read (claiming d (c .id)) payload (c .extended) (read Csid) (h .stage) n2 rest (fits .extended) in
       record {
         stage = x .stage;
         reached =
-            ap (λ (e : ChunkDeserializer). run (basicOf ++ (headOf ++ (extendedOf ++ rest))) e payload n) (sym (put-between d s))
-            ∙ b .reached
-            ∙ begins (b .stage) n1 (headOf ++ (extendedOf ++ rest)) k f
+            b .reached
+            ∙ begins (b .stage) n1 (headOf c ++ (extendedOf c ++ rest)) k f
             ∙ h .reached
             ∙ x .reached;
       }
 
   -- a whole chunk that is not refused
-  pub reads-back : (n : ℕ) (rest : List ℕ) → d .reader .stage ≡ Csid → ChunkFits d c → basicRefused d c ≡ 0 → headerRefused d c ≡ 0 → Rowed → Within
-      → run (chunkBytes c ++ rest) d payload n ≡ then (claiming d (c .id)) finished (sets payload (got d c) (c .payload)) (n + length (chunkBytes c)) rest
+  pub reads-back : (n : ℕ) (rest : List ℕ) → d .reader .stage ≡ Csid → ChunkFits d c → basicRefused d c ≡ 0 → headerRefused d c ≡ 0 → Rowed d c → Within d c
+      → run (chunkBytes c ++ rest) d payload n ≡ then (claiming d (c .id)) (finished d c) (sets payload (got d c) (c .payload)) (n + length (chunkBytes c)) rest
   reads-back n rest s fits k j f w =
-      let h = headed-back n (c .payload ++ rest) s fits k f in
-      let n3 = n + length basicOf + length headOf + length extendedOf in
+      let h = headed-back n (c .payload ++ rest) s (fits .head) k f in
+      let n3 = n + length (basicOf c) + length (headOf c) + length (extendedOf c) in
       (rw (parts rest))
       ∙ h .reached
       ∙ (rw (settles (h .stage) j))
@@ -240,22 +248,21 @@ module _ (d : ChunkDeserializer) (c : Chunk) (payload : List ℕ) where
       ∙ (rw (parts-length n))
 
   -- a chunk that is refused at the end of its basic header, whatever follows
-  pub refused-basic : (n : ℕ) (rest : List ℕ) → d .reader .stage ≡ Csid → ChunkFits d c → basicRefused d c ≢ 0
-      → Reaches (run (basicOf ++ rest) d payload n) d (λ r. refuse r (basicRefused d c)) (d .reader) payload (n + length basicOf) rest
+  pub refused-basic : (n : ℕ) (rest : List ℕ) → d .reader .stage ≡ Csid → FormFits (c .form) (c .id) → basicRefused d c ≢ 0
+      → Reaches (run (basicOf c ++ rest) d payload n) d (λ r. refuse r (basicRefused d c)) (d .reader) payload (n + length (basicOf c)) rest
   refused-basic n rest s fits k =
-      let b = basic-read d (d .reader) (formatFor (c .header)) payload n rest (c .form) (c .id) (fits .form) in
+      let b = basic-back n rest s fits in
       record {
         stage = b .stage;
         reached =
-            ap (λ (e : ChunkDeserializer). run (basicOf ++ rest) e payload n) (sym (put-between d s))
-            ∙ b .reached
+            b .reached
             ∙ (rw (← named-refused (d .room) (d .«max_chunk_size») (d .rows) (at (d .reader) (b .stage)) (formatFor (c .header)) (c .id) (find (d .rows) (c .id)) (free (d .rows)) (basicRefused d c) refl refl refl k));
       }
 
   -- a chunk that is refused at the end of its header, extended time included, whatever follows
-  pub refused-header : (n : ℕ) (rest : List ℕ) → d .reader .stage ≡ Csid → ChunkFits d c → basicRefused d c ≡ 0 → headerRefused d c ≢ 0 → Rowed
-      → Reaches (run (basicOf ++ (headOf ++ (extendedOf ++ rest))) d payload n) (claiming d (c .id)) (λ r. refuse r (headerRefused d c)) (read Csid) payload
-      (n + length basicOf + length headOf + length extendedOf) rest
+  pub refused-header : (n : ℕ) (rest : List ℕ) → d .reader .stage ≡ Csid → HeadFits d c → basicRefused d c ≡ 0 → headerRefused d c ≢ 0 → Rowed d c
+      → Reaches (run (basicOf c ++ (headOf c ++ (extendedOf c ++ rest))) d payload n) (claiming d (c .id)) (λ r. refuse r (headerRefused d c)) (read Csid) payload
+      (n + length (basicOf c) + length (headOf c) + length (extendedOf c)) rest
   refused-header n rest s fits k j f =
       let h = headed-back n rest s fits k f in
       record { stage = h .stage; reached = h .reached ∙ (rw (settles-not (h .stage) j)) }

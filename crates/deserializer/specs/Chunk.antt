@@ -89,9 +89,13 @@ module _ (d : ChunkDeserializer) (c : Chunk) where
   abbrev pub stored : Row
   stored = timed header (cond inside (row .timestamp .value) (firstTime (formatFor (c .header)) (row .timestamp .value) (says (c .extended) header)))
 
--- each part of a chunk fits its place, and its payload is what the chunk is to have
-pub record ChunkFits (d : ChunkDeserializer) (c : Chunk) : Type 0 where
+-- each part of a chunk's head fits its place ..
+pub record HeadFits (d : ChunkDeserializer) (c : Chunk) : Type 0 where
   pub form : FormFits (c .form) (c .id)
-  pub header-fits : HeaderFits (c .header)
+  pub fields : HeaderFits (c .header)
   pub extended : ExtendedFits (c .extended) (header d c)
+
+-- .. and its payload is what the chunk is to have
+pub record ChunkFits (d : ChunkDeserializer) (c : Chunk) : Type 0 where
+  pub head : HeadFits d c
   pub payload : length (c .payload) ≡ left d c

@@ -1,0 +1,597 @@
+-- A message fits from its first chunk on: a first chunk that does not is refused, and a later one says the same length.
+use Prim.Native.Nat.{ℕ, _+_, _-_, _*_, _≤_, _<_, min}
+use mathlib.Core.Path.{_≡_, refl, sym, _∙_}
+use mathlib.Core.Logic.{_≢_}
+use mathlib.Core.Bool.{Bool, true, false, cond, not, _&&_}
+use mathlib.Core.List.{List, [], _∷_}
+use native.Mathlib.Omega.{arith}
+use lib.Dec.{eqb, ltb, leb}
+use lib.ListN.{length, getD}
+use borrow.Author.Tests.{ne-eqb, eqb-true, eqb-false, lt-ltb, ltb-true, ltb-false}
+use Rattle.fields.specs.Cases.{_when_, first}
+use Rattle.chunk_header.specs.declared.ChunkHeaderFormat.{ChunkHeaderFormat}
+use Rattle.chunk_header.specs.declared.ChunkHeaderFormat.the-variants.{Full, TimeDeltaWithoutMessageStreamId, TimeDeltaOnly, Empty}
+use Rattle.chunk_header.specs.Table.{fieldLength, formatOf, lastType, typeOf}
+use Rattle.deserializer.specs.declared.ChunkDeserializer.{ChunkDeserializer}
+use Rattle.deserializer.specs.declared.reader.Event.the-variants.{Go, Chunk, Message, Refuse}
+use Rattle.deserializer.specs.declared.reader.Reader.{Reader}
+use Rattle.deserializer.specs.declared.reader.Stage.{Stage}
+use Rattle.deserializer.specs.declared.reader.Stage.the-variants.{Csid as AtCsid, CsidSecond, CsidThird, InitialTimestamp, MessageLength, MessageTypeId, MessageStreamId, ExtendedTimestamp, MessagePayload}
+use Rattle.deserializer.specs.declared.reader.Stepped.{Stepped}
+use Rattle.deserializer.specs.declared.rows.Row.{Row}
+use Rattle.deserializer.specs.Machine.{at, basic, basicBy, claims, current, ended, extendedField, extendedNext, fielded, gathered, go, headed, inPayload, known, lacks, landed, lengthed, lengthField, lengthNext, named, opens, paid, paused, pays, reader, refuse, stepped, streamed, streamField, streamNext, swapped, timed, timestampField, timestampNext, typed, typeField, typeNext, unfinished, whole}
+use Rattle.deserializer.specs.Meaning.{basicRefusal, firstRefusal, firstTime, isEmpty, isFull, laterRefusal, maxField, repeats}
+use Rattle.deserializer.specs.Rows.{find, free, putRow, rowAt}
+use Rattle.deserializer.specs.Answer.{refused}
+use Rattle.deserializer.specs.Call.{next, putAt, stepOf}
+use Rattle.deserializer.proofs.Runs.{pays-is}
+use Rattle.deserializer.proofs.RowLaws.{Distinct, find-tells, id-put, put-number}
+use Rattle.deserializer.proofs.Sound.{Leaves, Sound, clash, csid-used, found, in-payload-past, never, past}
+
+-- the fields that a chunk inside a message has only in a full header
+abbrev pub early : Stage → Bool
+early AtCsid = false
+early (CsidSecond a) = false
+early (CsidThird a b) = false
+early (InitialTimestamp before lacks) = true
+early (MessageLength before lacks) = true
+early MessageTypeId = true
+early (MessageStreamId before lacks) = true
+early (ExtendedTimestamp before lacks) = false
+early MessagePayload = false
+
+-- the length that the row of an id says
+abbrev pub lengthOf : List ℕ → ℕ → ℕ
+lengthOf rows id = getD rows (6 * find rows id + 3) 0
+
+-- a chunk inside a message of length L: its row says L, and without a full header so does the chunk
+pub record Later (L : ℕ) (r : Reader) : Type 0 where
+  pub before : r .chunk .before .«message_length» ≡ L
+  pub empty : isFull (r .chunk .format) ≡ false → isEmpty (r .chunk .format) ≡ true
+  pub short : isFull (r .chunk .format) ≡ false → r .chunk .header .«message_length» ≡ L
+
+-- payload comes: a byte at least, no more than the message lacks, and the message fits
+pub record Paying (room L : ℕ) (r : Reader) : Type 0 where
+  pub some : 0 < r .chunk .left
+  pub ends : r .message .got + r .chunk .left ≤ r .chunk .header .«message_length»
+  pub fits : r .chunk .header .«message_length» ≤ room
+  pub own : r .message .id ≢ 0 → r .chunk .header .«message_length» ≡ L
+
+-- a reader whose unfinished message, if there is one, has length L
+pub record Fits (room L : ℕ) (r : Reader) : Type 0 where
+  pub got : r .message .id ≢ 0 → r .message .got < L
+  pub room-for : r .message .id ≢ 0 → L ≤ room
+  pub later : past (r .stage) ≡ true → r .message .id ≢ 0 → Later L r
+  pub full : early (r .stage) ≡ true → r .message .id ≢ 0 → isFull (r .chunk .format) ≡ true
+  pub paying : inPayload (r .stage) ≡ true → Paying room L r
+
+-- so is every reader outside a message and a payload
+pub quiet-fits : (room L : ℕ) (r : Reader) → r .message .id ≡ 0 → inPayload (r .stage) ≡ false → Fits room L r
+quiet-fits room L r e p = record {
+  got = λ n. absurd (n e);
+  room-for = λ n. absurd (n e);
+  later = λ q n. absurd (n e);
+  full = λ q n. absurd (n e);
+  paying = λ q. clash p q;
+}
+
+-- the length matters only inside a message
+fits-same : (room L L′ : ℕ) (r : Reader) → (r .message .id ≢ 0 → L ≡ L′) → Fits room L r → Fits room L′ r
+fits-same room L L′ r e f = record {
+  got = λ n. rw (e n) at (f .got n);
+  room-for = λ n. rw (e n) at (f .room-for n);
+  later = λ q n. rw (e n) at (f .later q n);
+  full = f .full;
+  paying = λ q. let p = f .paying q in record { some = p .some; ends = p .ends; fits = p .fits; own = λ n. p .own n ∙ e n };
+}
+
+-- what a step leaves: the length is that of the row it puts, if it puts one
+pub record Fitting (room L m : ℕ) (s : Stepped) : Type 0 where
+  pub fits : Fits room (cond (ltb (s .place) 64) (s .row .«message_length») L) (s .reader)
+  pub same : ltb (s .place) 64 ≡ false → s .reader .message .id ≢ 0 → s .reader .message .id ≡ m
+  pub own : ltb (s .place) 64 ≡ true → s .reader .message .id ≢ 0 → s .reader .message .id ≡ s .row .id
+  pub guard : s .event ≢ Refuse 255
+
+-- a reader in such a payload passes the guard
+pub paying-pays : (room L : ℕ) (r : Reader) → Paying room L r → pays room r ≡ true
+paying-pays room L r p =
+    let ends = p .ends in
+    let fits = p .fits in
+    pays-is room r (p .some) (omega arith)
+
+-- the other events are no refusal
+go-is-not : Go ≢ Refuse 255
+go-is-not e = let z : _≡_ {A = ℕ} 0 1 = cc in omega arith
+
+chunk-is-not : Chunk ≢ Refuse 255
+chunk-is-not e = let z : _≡_ {A = ℕ} 0 1 = cc in omega arith
+
+message-is-not : Message ≢ Refuse 255
+message-is-not e = let z : _≡_ {A = ℕ} 0 1 = cc in omega arith
+
+-- the refusals of document 01 are numbers up to 14
+first-small : (format : ChunkHeaderFormat) (header : Row) (number room : ℕ) → firstRefusal format header number room ≤ 14
+unfolding firstRefusal
+first-small format header number room =
+    by-cases (not (isFull format) && (eqb (header .«timestamp_field») maxField && ltb number maxField)) (ltb room (header .«message_length»))
+  where
+    by-cases : (t u : Bool) → first (13 when t ∷ 14 when u ∷ []) 0 ≤ 14
+    by-cases true u = omega arith
+    by-cases false true = omega arith
+    by-cases false false = omega arith
+
+later-small : (format : ChunkHeaderFormat) (message header : Row) (number : ℕ) → laterRefusal format message header number ≤ 14
+unfolding laterRefusal
+later-small format message header number = by-cases (isFull format && not (repeats message header number))
+  where
+    by-cases : (t : Bool) → first (12 when t ∷ []) 0 ≤ 14
+    by-cases true = omega arith
+    by-cases false = omega arith
+
+basic-small : (format : ChunkHeaderFormat) (has-row unused inside own : Bool) → basicRefusal format has-row unused inside own ≤ 14
+unfolding basicRefusal
+basic-small format has-row unused inside own =
+    by-cases (not inside && (not (isFull format) && not has-row)) (isFull format && (not has-row && not unused)) (inside && not own)
+    (inside && (not (isFull format) && not (isEmpty format)))
+  where
+    by-cases : (t u v w : Bool) → first (9 when t ∷ 10 when u ∷ 11 when v ∷ 12 when w ∷ []) 0 ≤ 14
+    by-cases true u v w = omega arith
+    by-cases false true v w = omega arith
+    by-cases false false true w = omega arith
+    by-cases false false false true = omega arith
+    by-cases false false false false = omega arith
+
+-- a test, with what it tells
+tested : (P : Stepped → Type 0) (t : Bool) {a b : Stepped} → (t ≡ true → P a) → (t ≡ false → P b) → P (cond t a b)
+tested P true p q = p refl
+tested P false p q = q refl
+
+-- a format that has a field, inside a message, is full
+has-field : (format : ChunkHeaderFormat) (field : ℕ) → leb 3 (lastType field) ≡ false → (isFull format ≡ false → isEmpty format ≡ true)
+    → eqb (fieldLength (typeOf format) field) 0 ≡ false
+    → isFull format ≡ true
+unfolding fieldLength
+has-field Full field k h e = refl
+has-field TimeDeltaWithoutMessageStreamId field k h e = never (h refl)
+has-field TimeDeltaOnly field k h e = never (h refl)
+has-field Empty field k h e = absurd (let z : fieldLength 3 field ≡ 0 = rw k in eqb-false (fieldLength 3 field) 0 e z)
+
+-- a first chunk that is not refused fits
+pub first-fits : (format : ChunkHeaderFormat) (header : Row) (number room : ℕ) → firstRefusal format header number room ≡ 0 → header .«message_length» ≤ room
+unfolding firstRefusal
+first-fits format header number room h =
+    by-cases (not (isFull format) && (eqb (header .«timestamp_field») maxField && ltb number maxField)) (ltb room (header .«message_length»)) refl h
+  where
+    by-cases : (t u : Bool) → ltb room (header .«message_length») ≡ u → _≡_ {A = ℕ} (first (13 when t ∷ 14 when u ∷ []) 0) 0
+        → header .«message_length» ≤ room
+    by-cases true u e h = absurd (omega arith)
+    by-cases false true e h = absurd (omega arith)
+    by-cases false false e h = ltb-false _ _ e
+
+-- a full header inside a message that is not refused says the message's length
+pub later-length : (format : ChunkHeaderFormat) (message header : Row) (number : ℕ) → laterRefusal format message header number ≡ 0 → isFull format ≡ true
+    → header .«message_length» ≡ message .«message_length»
+unfolding laterRefusal
+later-length format message header number h f =
+    by-cases (isFull format) (eqb (header .«message_length») (message .«message_length»)) _ f refl h
+  where
+    by-cases : (t u v : Bool) → t ≡ true → eqb (header .«message_length») (message .«message_length») ≡ u
+        → _≡_ {A = ℕ} (first (12 when (t && not (u && v)) ∷ []) 0) 0
+        → header .«message_length» ≡ message .«message_length»
+    by-cases true true v f e h = eqb-true _ _ e
+    by-cases true false v f e h = absurd (omega arith)
+    by-cases false u v f e h = never f
+
+-- so a header inside a message says its length
+says : {L : ℕ} (r : Reader) → Later L r → (isFull (r .chunk .format) ≡ true → r .chunk .header .«message_length» ≡ r .chunk .before .«message_length»)
+    → r .chunk .header .«message_length» ≡ L
+says {L} r l h = by-cases (isFull (r .chunk .format)) refl
+  where
+    by-cases : (t : Bool) → isFull (r .chunk .format) ≡ t → r .chunk .header .«message_length» ≡ L
+    by-cases true e = h e ∙ l .before
+    by-cases false e = l .short e
+
+-- another header of the same length
+later-headed : (L : ℕ) (r : Reader) (h : Row) → h .«message_length» ≡ r .chunk .header .«message_length» → Later L r → Later L (headed r h)
+later-headed L r h e k = record { before = k .before; empty = k .empty; short = λ z. e ∙ k .short z }
+
+fits-headed : (room L : ℕ) (r : Reader) (h : Row) → h .«message_length» ≡ r .chunk .header .«message_length» → Fits room L r → Fits room L (headed r h)
+fits-headed room L r h e f = record {
+  got = f .got;
+  room-for = f .room-for;
+  later = λ q n. later-headed L r h e (f .later q n);
+  full = f .full;
+  paying = λ q. let p = f .paying q in record { some = p .some; ends = rw e (p .ends); fits = rw e (p .fits); own = λ n. e ∙ p .own n };
+}
+
+-- a length that is read, which inside a message only a full header has
+later-lengthed : (L : ℕ) (r : Reader) (x : ℕ) → isFull (r .chunk .format) ≡ true → Later L r → Later L (headed r (lengthed (r .chunk .header) x))
+later-lengthed L r x f k =
+    record { before = k .before; empty = k .empty; short = λ z. clash z f }
+
+fits-lengthed : (room L : ℕ) (r : Reader) (x : ℕ) → (r .message .id ≢ 0 → isFull (r .chunk .format) ≡ true) → inPayload (r .stage) ≡ false → Fits room L r
+    → Fits room L (headed r (lengthed (r .chunk .header) x))
+fits-lengthed room L r x full p f = record {
+  got = f .got;
+  room-for = f .room-for;
+  later = λ q n. later-lengthed L r x (full n) (f .later q n);
+  full = f .full;
+  paying = λ q. clash p q;
+}
+
+-- the same reader at another stage
+fits-at : (room L : ℕ) (r : Reader) (stage : Stage) → (past stage ≡ true → r .message .id ≢ 0 → Later L r)
+    → (early stage ≡ true → r .message .id ≢ 0 → isFull (r .chunk .format) ≡ true)
+    → inPayload stage ≡ false
+    → Fits room L r
+    → Fits room L (at r stage)
+fits-at room L r stage later full p f = record {
+  got = f .got;
+  room-for = f .room-for;
+  later = λ q n. let k = later q n in record { before = k .before; empty = k .empty; short = k .short };
+  full = full;
+  paying = λ q. clash p q;
+}
+
+module _ (room size L : ℕ) (some : 0 < size) where
+  go-fits : (r : Reader) → Fits room L r → Fitting room L (r .message .id) (go r)
+  go-fits r f = record { fits = f; same = λ e n. refl; own = λ e n. never e; guard = go-is-not }
+
+  refuse-fits : (r : Reader) (k : ℕ) → k ≤ 14 → Fits room L r → Fitting room L (r .message .id) (refuse r k)
+  refuse-fits r k small f = record {
+    fits = f;
+    same = λ e n. refl;
+    own = λ e n. never e;
+    guard = λ e. let q : k ≡ 255 = cc in omega arith;
+  }
+
+  ended-fits : (r : Reader) (m : ℕ) → Fitting room L m (ended r)
+  ended-fits r m = record { fits = quiet-fits room _ _ refl refl; same = λ e n. absurd (n refl); own = λ e n. absurd (n refl); guard = message-is-not }
+
+  -- a payload opens
+  opens-fits : (r : Reader) (got : ℕ) → r .chunk .header .«message_length» ≤ room
+      → (r .chunk .header .«message_length» ≢ 0 → got < r .chunk .header .«message_length»)
+      → (r .message .id ≢ 0 → r .chunk .header .«message_length» ≡ L) → (r .message .id ≢ 0 → Later L r)
+      → Fitting room L (r .message .id) (opens size r got)
+  unfolding opens
+  opens-fits r got h g own later =
+      let c = r .chunk in
+      tested (Fitting room L (r .message .id)) (eqb (c .header .«message_length») 0) (λ e. ended-fits r (r .message .id))
+      (λ e.
+      let lacks = g (eqb-false _ _ e) in
+      let left = min size (c .header .«message_length» - got) in
+      let r′ = reader MessagePayload (current (c .format) (c .place) (c .before) (c .header) left) (unfinished (r .message .id) got) in
+      go-fits r′ (record {
+        got = λ n. rw (own n) at lacks;
+        room-for = λ n. rw (own n) at h;
+        later = λ q n. let k = later n in record { before = k .before; empty = k .empty; short = k .short };
+        full = λ q n. never q;
+        paying = λ q. record { some = omega arith; ends = omega arith; fits = h; own = own };
+      }))
+
+  whole-fits : (r : Reader) (time : ℕ) → Fits room L r → (r .message .id ≢ 0 → Later L r) → Fitting room L (r .message .id) (whole room size r time)
+  unfolding whole
+  whole-fits r time f later =
+      let c = r .chunk in
+      let k = firstRefusal (c .format) (c .header) time room in
+      let j = laterRefusal (c .format) (c .before) (c .header) time in
+      let P = Fitting room L (r .message .id) in
+      tested P (eqb (r .message .id) 0)
+      (λ e.
+      let none = eqb-true (r .message .id) 0 e in
+      tested P (eqb k 0)
+      (λ z.
+      opens-fits (headed r (timed (c .header) (firstTime (c .format) (c .before .timestamp .value) time))) 0
+      (first-fits (c .format) (c .header) time room (eqb-true k 0 z))
+      (λ n. omega arith)
+      (λ n. absurd (n none))
+      (λ n. absurd (n none)))
+      (λ z. refuse-fits r k (first-small (c .format) (c .header) time room) f))
+      (λ e.
+      let n = eqb-false (r .message .id) 0 e in
+      let l = later n in
+      tested P (eqb j 0)
+      (λ z.
+      let own = says r l (later-length (c .format) (c .before) (c .header) time (eqb-true j 0 z)) in
+      let got = f .got n in
+      let fit = f .room-for n in
+      opens-fits (headed r (timed (c .header) (c .before .timestamp .value))) (r .message .got)
+      (omega arith)
+      (λ m. omega arith)
+      (λ m. own)
+      (λ m. later-headed L r (timed (c .header) (c .before .timestamp .value)) refl l))
+      (λ z. refuse-fits r j (later-small (c .format) (c .before) (c .header) time) f))
+
+  extended-fits : (r : Reader) → Fits room L r → (r .message .id ≢ 0 → Later L r) → Fitting room L (r .message .id) (extendedNext room size r)
+  unfolding extendedNext
+  extended-fits r f later =
+      tested (Fitting room L (r .message .id)) (eqb (r .chunk .header .«timestamp_field») maxField)
+      (λ e.
+      go-fits (at r (ExtendedTimestamp 0 4))
+      (fits-at room L r (ExtendedTimestamp 0 4) (λ q. later) (λ q n. never q) refl f))
+      (λ e. whole-fits r (r .chunk .header .«timestamp_field») f later)
+
+  -- a field that the format has comes next
+  field-fits : (r : Reader) (stage : Stage) (field : ℕ) → leb 3 (lastType field) ≡ false → inPayload stage ≡ false
+      → eqb (lacks r field) 0 ≡ false
+      → Fits room L r
+      → (r .message .id ≢ 0 → Later L r)
+      → Fitting room L (r .message .id) (go (at r stage))
+  field-fits r stage field k p e f later =
+      go-fits (at r stage) (fits-at room L r stage (λ q. later) (λ q n. has-field (r .chunk .format) field k (later n .empty) e) p f)
+
+  stream-fits : (r : Reader) → Fits room L r → (r .message .id ≢ 0 → Later L r) → Fitting room L (r .message .id) (streamNext room size r)
+  unfolding streamNext
+  stream-fits r f later =
+      tested (Fitting room L (r .message .id)) (eqb (lacks r 3) 0) (λ e. extended-fits r f later)
+      (λ e. field-fits r (MessageStreamId 0 (lacks r 3)) 3 refl refl e f later)
+
+  type-fits : (r : Reader) → Fits room L r → (r .message .id ≢ 0 → Later L r) → Fitting room L (r .message .id) (typeNext room size r)
+  unfolding typeNext
+  type-fits r f later =
+      tested (Fitting room L (r .message .id)) (eqb (lacks r 2) 0) (λ e. stream-fits r f later) (λ e. field-fits r MessageTypeId 2 refl refl e f later)
+
+  length-fits : (r : Reader) → Fits room L r → (r .message .id ≢ 0 → Later L r) → Fitting room L (r .message .id) (lengthNext room size r)
+  unfolding lengthNext
+  length-fits r f later =
+      tested (Fitting room L (r .message .id)) (eqb (lacks r 1) 0) (λ e. type-fits r f later)
+      (λ e. field-fits r (MessageLength 0 (lacks r 1)) 1 refl refl e f later)
+
+  timestamp-fits : (r : Reader) → Fits room L r → (r .message .id ≢ 0 → Later L r) → Fitting room L (r .message .id) (timestampNext room size r)
+  unfolding timestampNext
+  timestamp-fits r f later =
+      tested (Fitting room L (r .message .id)) (eqb (lacks r 0) 0) (λ e. length-fits r f later)
+      (λ e. field-fits r (InitialTimestamp 0 (lacks r 0)) 0 refl refl e f later)
+
+  -- a byte of payload
+  paused-fits : (r : Reader) (got m : ℕ) → r .chunk .place < 64 → got < r .chunk .header .«message_length» → r .chunk .header .«message_length» ≤ room
+      → Fitting room L m (paused r got)
+  paused-fits r got m h g k =
+      let e = lt-ltb (r .chunk .place) 64 h in
+      let f : Fits room (r .chunk .header .«message_length») (paused r got .reader) = record {
+        got = λ n. g;
+        room-for = λ n. k;
+        later = λ q n. never q;
+        full = λ q n. never q;
+        paying = λ q. never q;
+      }
+      in
+      record { fits = rw e f; same = λ z n. clash z e; own = λ z n. refl; guard = chunk-is-not }
+
+  landed-fits : (r : Reader) → r .chunk .place < 64 → inPayload (r .stage) ≡ true → Fits room L r → Fitting room L (r .message .id) (landed r 1)
+  unfolding landed
+  landed-fits r h p f =
+      let P = Fitting room L (r .message .id) in
+      let r′ = paid r (r .message .got + 1) (r .chunk .left - 1) in
+      let k = f .paying p in
+      let ends = k .ends in
+      let fits = k .fits in
+      tested P (eqb (r .chunk .left - 1) 0)
+      (λ e.
+      tested P (ltb (r .message .got + 1) (r .chunk .header .«message_length»))
+      (λ z. paused-fits r′ (r .message .got + 1) (r .message .id) h (ltb-true _ _ z) fits)
+      (λ z. ended-fits r′ (r .message .id)))
+      (λ e.
+      let left = eqb-false (r .chunk .left - 1) 0 e in
+      go-fits r′ (record {
+        got = λ n. let own = k .own n in omega arith;
+        room-for = f .room-for;
+        later = λ q n. let l = f .later (in-payload-past (r .stage) p) n in record { before = l .before; empty = l .empty; short = l .short };
+        full = λ q n. never q;
+        paying = λ q. record { some = omega arith; ends = omega arith; fits = fits; own = k .own };
+      }))
+
+  -- a byte of a header past its basic header
+  byte-fits : (stage : Stage) (rows : List ℕ) (r : Reader) (b : ℕ) → r .stage ≡ stage → past stage ≡ true → inPayload stage ≡ false → Fits room L r
+      → Fitting room L (r .message .id) (stepped stage room size rows r b)
+  unfolding timestampField lengthField typeField streamField extendedField
+  byte-fits AtCsid rows r b e p q f = never p
+  byte-fits (CsidSecond a) rows r b e p q f = never p
+  byte-fits (CsidThird a c) rows r b e p q f = never p
+  byte-fits (InitialTimestamp before lacks) rows r b e p q f =
+      let n = gathered before b in
+      let later = f .later (rw e) in
+      let h = fielded (r .chunk .header) n in
+      tested (Fitting room L (r .message .id)) (leb lacks 1) (λ z. length-fits (headed r h) (fits-headed room L r h refl f) (λ m. later-headed L r h refl (later m)))
+      (λ z.
+      go-fits (at r (InitialTimestamp n (lacks - 1)))
+      (fits-at room L r (InitialTimestamp n (lacks - 1)) (λ q. later) (λ q. f .full (rw e)) refl f))
+  byte-fits (MessageLength before lacks) rows r b e p q f =
+      let n = gathered before b in
+      let later = f .later (rw e) in
+      let full = f .full (rw e) in
+      tested (Fitting room L (r .message .id)) (leb lacks 1)
+      (λ z.
+      type-fits (headed r (lengthed (r .chunk .header) n)) (fits-lengthed room L r n full (rw e) f) (λ m. later-lengthed L r n (full m) (later m)))
+      (λ z. go-fits (at r (MessageLength n (lacks - 1))) (fits-at room L r (MessageLength n (lacks - 1)) (λ q. later) (λ q. full) refl f))
+  byte-fits MessageTypeId rows r b e p q f =
+      let h = typed (r .chunk .header) b in
+      stream-fits (headed r h) (fits-headed room L r h refl f) (λ m. later-headed L r h refl (f .later (rw e) m))
+  byte-fits (MessageStreamId before lacks) rows r b e p q f =
+      let n = gathered before b in
+      let later = f .later (rw e) in
+      let h = streamed (r .chunk .header) (swapped n) in
+      tested (Fitting room L (r .message .id)) (leb lacks 1)
+      (λ z. extended-fits (headed r h) (fits-headed room L r h refl f) (λ m. later-headed L r h refl (later m)))
+      (λ z.
+      go-fits (at r (MessageStreamId n (lacks - 1))) (fits-at room L r (MessageStreamId n (lacks - 1)) (λ q. later) (λ q. f .full (rw e)) refl f))
+  byte-fits (ExtendedTimestamp before lacks) rows r b e p q f =
+      let n = gathered before b in
+      let later = f .later (rw e) in
+      tested (Fitting room L (r .message .id)) (leb lacks 1) (λ z. whole-fits r n f later)
+      (λ z.
+      go-fits (at r (ExtendedTimestamp n (lacks - 1)))
+      (fits-at room L r (ExtendedTimestamp n (lacks - 1)) (λ q. later) (λ q n. never q) refl f))
+  byte-fits MessagePayload rows r b e p q f = never (sym q)
+
+-- so is a stage of such a field
+early-past : (stage : Stage) → early stage ≡ true → past stage ≡ true
+early-past AtCsid e = e
+early-past (CsidSecond a) e = e
+early-past (CsidThird a b) e = e
+early-past (InitialTimestamp before lacks) e = refl
+early-past (MessageLength before lacks) e = refl
+early-past MessageTypeId e = refl
+early-past (MessageStreamId before lacks) e = refl
+early-past (ExtendedTimestamp before lacks) e = refl
+early-past MessagePayload e = refl
+
+-- a number that cannot be other than 0
+not-not : (m : ℕ) → (m ≢ 0 → ⊥) → m ≡ 0
+not-not m h = by-cases (eqb m 0) refl
+  where
+    by-cases : (t : Bool) → eqb m 0 ≡ t → m ≡ 0
+    by-cases true e = eqb-true m 0 e
+    by-cases false e = absurd (h (eqb-false m 0 e))
+
+-- inside a message a basic header that is not refused is of its own stream, and full or empty
+pub inside-tells : (format : ChunkHeaderFormat) (has-row unused own : Bool) → basicRefusal format has-row unused true own ≡ 0
+    → (own ≡ true) × (isFull format ≡ false → isEmpty format ≡ true)
+unfolding basicRefusal
+inside-tells format has-row unused own h = by-cases (isFull format) (isEmpty format) (not has-row && not unused) own h
+  where
+    by-cases : (full empty lacking own : Bool)
+        → _≡_ {A = ℕ} (first (10 when (full && lacking) ∷ 11 when not own ∷ 12 when (not full && not empty) ∷ []) 0) 0
+        → (own ≡ true) × (full ≡ false → empty ≡ true)
+    by-cases true empty true own h = absurd (omega arith)
+    by-cases true empty false true h = (refl, λ z. never (sym z))
+    by-cases true empty false false h = absurd (omega arith)
+    by-cases false true lacking true h = (refl, λ z. refl)
+    by-cases false false lacking true h = absurd (omega arith)
+    by-cases false empty lacking false h = absurd (omega arith)
+
+-- the last byte of a basic header
+named-fits : (room size : ℕ) (rows : List ℕ) (r : Reader) (format : ChunkHeaderFormat) (id : ℕ) → 0 < size → id ≢ 0 → past (r .stage) ≡ false → Sound rows r
+    → Fits room (lengthOf rows (r .message .id)) r
+    → Fitting room (lengthOf rows (r .message .id)) (r .message .id) (named room size rows r format id)
+unfolding named
+named-fits room size rows r format id some n p s f =
+    by-cases (ltb (find rows id) 64) refl
+    (basicRefusal format (ltb (find rows id) 64) (ltb (free rows) 64) (not (eqb (r .message .id) 0)) (eqb (r .message .id) id)) refl
+  where
+    tells : (u : Bool) → basicRefusal format u (ltb (free rows) 64) (not (eqb (r .message .id) 0)) (eqb (r .message .id) id) ≡ 0 → r .message .id ≢ 0
+        → (r .message .id ≡ id) × (isFull format ≡ false → isEmpty format ≡ true)
+    tells u e m =
+        let k = inside-tells format u (ltb (free rows) 64) (eqb (r .message .id) id) (rw (ne-eqb (r .message .id) 0 m) at e) in
+        (eqb-true _ _ (k .0), k .1)
+
+    small : (u : Bool) {k : ℕ} → basicRefusal format u (ltb (free rows) 64) (not (eqb (r .message .id) 0)) (eqb (r .message .id) id) ≡ k → k ≤ 14
+    small u e = rw e at (basic-small format u (ltb (free rows) 64) (not (eqb (r .message .id) 0)) (eqb (r .message .id) id))
+
+    by-cases : (u : Bool) → ltb (find rows id) 64 ≡ u → (k : ℕ)
+        → basicRefusal format u (ltb (free rows) 64) (not (eqb (r .message .id) 0)) (eqb (r .message .id) id) ≡ k
+        → Fitting room (lengthOf rows (r .message .id)) (r .message .id)
+        (cond (eqb k 0) (cond u (known room size r format (rowAt rows (find rows id)) (find rows id)) (claims r format id (free rows))) (refuse r k))
+    by-cases true g k e =
+        tested (Fitting room (lengthOf rows (r .message .id)) (r .message .id)) (eqb k 0)
+        (λ z.
+        let row = rowAt rows (find rows id) in
+        let r′ = reader (r .stage) (current format (find rows id) row row 0) (r .message) in
+        let later : r .message .id ≢ 0 → Later (lengthOf rows (r .message .id)) r′ = λ m.
+        let t = tells true (e ∙ eqb-true k 0 z) m in
+        let same : getD rows (6 * find rows id + 3) 0 ≡ lengthOf rows (r .message .id) = rw (t .0) in
+        record { before = same; empty = t .1; short = λ y. same }
+        in
+        timestamp-fits room size (lengthOf rows (r .message .id)) some r′
+        (record {
+          got = f .got;
+          room-for = f .room-for;
+          later = λ q. later;
+          full = λ q m. clash p (early-past (r .stage) q);
+          paying = λ q. clash p (in-payload-past (r .stage) q);
+        })
+        later)
+        (λ z. refuse-fits room size (lengthOf rows (r .message .id)) some r k (small true e) f)
+    by-cases false g k e =
+        tested (Fitting room (lengthOf rows (r .message .id)) (r .message .id)) (eqb k 0)
+        (λ z.
+        let none = ltb-false (find rows id) 64 g in
+        let outside : r .message .id ≢ 0 → ⊥ = λ m.
+        let t = tells false (e ∙ eqb-true k 0 z) m in
+        let has = s .begun m in
+        let has′ : find rows id < 64 = rw (t .0) at has in
+        omega arith
+        in
+        record {
+          fits = quiet-fits room _ _ (not-not (r .message .id) outside) refl;
+          same = λ y m. refl;
+          own = λ y m. absurd (outside m);
+          guard = go-is-not;
+        })
+        (λ z. refuse-fits room size (lengthOf rows (r .message .id)) some r k (small false e) f)
+
+-- the row of an id is where it is found
+find-distinct : (rows : List ℕ) (id p : ℕ) → Distinct rows → p < 64 → id ≢ 0 → getD rows (6 * p) 0 ≡ id → find rows id ≡ p
+find-distinct rows id p d h n e =
+    let f = found rows id p h e in
+    let q = find-tells rows id f in
+    d (find rows id) p f h (rw q n) (q ∙ sym e)
+
+-- so the length that a step leaves is the one in the table
+pub fitting-fits : (room : ℕ) (rows : List ℕ) (m : ℕ) (s : Stepped) → length rows ≡ 384 → Leaves rows s → Fitting room (lengthOf rows m) m s
+    → Fits room (lengthOf (putAt rows (s .place) (s .row)) (s .reader .message .id)) (s .reader)
+fitting-fits room rows m s l = by-cases (ltb (s .place) 64) refl
+  where
+    by-cases : (t : Bool) → ltb (s .place) 64 ≡ t → Leaves rows s → Fitting room (lengthOf rows m) m s
+        → Fits room (lengthOf (putAt rows (s .place) (s .row)) (s .reader .message .id)) (s .reader)
+    by-cases true e k f =
+        let h = ltb-true (s .place) 64 e in
+        let rows′ = putRow rows (s .place) (s .row) in
+        let d : Distinct rows′ = rw e at (k .distinct) in
+        let g : Fits room (s .row .«message_length») (s .reader) = rw e at (f .fits) in
+        rw e (fits-same room (s .row .«message_length») (lengthOf rows′ (s .reader .message .id)) (s .reader)
+        (λ n.
+        let own = f .own e n in
+        let here = id-put rows (s .place) (s .row) l h ∙ sym own in
+        let at-place : find rows′ (s .reader .message .id) ≡ s .place = find-distinct rows′ (s .reader .message .id) (s .place) d h n here in
+        rw at-place (sym (put-number rows (s .place) 3 (s .row) l h (omega arith)))) g)
+    by-cases false e k f =
+        let g : Fits room (lengthOf rows m) (s .reader) = rw e at (f .fits) in
+        rw e (fits-same room (lengthOf rows m) (lengthOf rows (s .reader .message .id)) (s .reader) (λ n. rw (f .same e n)) g)
+
+-- a byte of a basic header
+basic-fits : (room size : ℕ) (rows : List ℕ) (r : Reader) (bytes : List ℕ) (kept : Stage) → past (r .stage) ≡ false → past kept ≡ false
+    → 0 < size
+    → Sound rows r
+    → Fits room (lengthOf rows (r .message .id)) r
+    → Fitting room (lengthOf rows (r .message .id)) (r .message .id) (basic room size rows r bytes kept)
+basic-fits room size rows r bytes kept p q some s f =
+    let L = lengthOf rows (r .message .id) in
+    let format = formatOf (getD bytes 0 0) in
+    csid-used (λ c. Fitting room (lengthOf rows (r .message .id)) (r .message .id) (basicBy c room size rows r format kept)) bytes
+    (go-fits room size L some (at r kept) (record {
+      got = f .got;
+      room-for = f .room-for;
+      later = λ z n. clash q z;
+      full = λ z n. clash q (early-past kept z);
+      paying = λ z. clash q (in-payload-past kept z);
+    }))
+    (λ id n. named-fits room size rows r format id some n p s f)
+
+-- a byte, by the stage
+stepped-fits : (stage : Stage) (room size : ℕ) (rows : List ℕ) (r : Reader) (b : ℕ) → r .stage ≡ stage → inPayload stage ≡ false → 0 < size → Sound rows r
+    → Fits room (lengthOf rows (r .message .id)) r
+    → Fitting room (lengthOf rows (r .message .id)) (r .message .id) (stepped stage room size rows r b)
+stepped-fits AtCsid room size rows r b e p some s f = basic-fits room size rows r (b ∷ []) (CsidSecond b) (rw e) refl some s f
+stepped-fits (CsidSecond a) room size rows r b e p some s f = basic-fits room size rows r (a ∷ b ∷ []) (CsidThird a b) (rw e) refl some s f
+stepped-fits (CsidThird a c) room size rows r b e p some s f = basic-fits room size rows r (a ∷ c ∷ b ∷ []) (CsidThird a c) (rw e) refl some s f
+stepped-fits (InitialTimestamp before lacks) room size rows r b e p some s f = byte-fits room size _ some (InitialTimestamp before lacks) rows r b e refl refl f
+stepped-fits (MessageLength before lacks) room size rows r b e p some s f = byte-fits room size _ some (MessageLength before lacks) rows r b e refl refl f
+stepped-fits MessageTypeId room size rows r b e p some s f = byte-fits room size _ some MessageTypeId rows r b e refl refl f
+stepped-fits (MessageStreamId before lacks) room size rows r b e p some s f = byte-fits room size _ some (MessageStreamId before lacks) rows r b e refl refl f
+stepped-fits (ExtendedTimestamp before lacks) room size rows r b e p some s f = byte-fits room size _ some (ExtendedTimestamp before lacks) rows r b e refl refl f
+stepped-fits MessagePayload room size rows r b e p some s f = never (sym p)
+
+pub step-fits : (d : ChunkDeserializer) (b : ℕ) → 0 < d .«max_chunk_size» → Sound (d .rows) (d .reader)
+    → Fits (d .room) (lengthOf (d .rows) (d .reader .message .id)) (d .reader)
+    → Fitting (d .room) (lengthOf (d .rows) (d .reader .message .id)) (d .reader .message .id) (stepOf d b)
+unfolding stepOf
+step-fits d b some s f = by-cases (inPayload (d .reader .stage)) (pays (d .room) (d .reader)) refl refl
+  where
+    by-cases : (t u : Bool) → inPayload (d .reader .stage) ≡ t → pays (d .room) (d .reader) ≡ u
+        → Fitting (d .room) (lengthOf (d .rows) (d .reader .message .id)) (d .reader .message .id)
+        (cond t (cond u (landed (d .reader) 1) (refuse (d .reader) 255)) (stepped (d .reader .stage) (d .room) (d .«max_chunk_size») (d .rows) (d .reader) b))
+    by-cases true true e g =
+        landed-fits (d .room) (d .«max_chunk_size») _ some (d .reader) (s .owns (in-payload-past (d .reader .stage) e) .inside) e f
+    by-cases true false e g = clash g (paying-pays (d .room) _ (d .reader) (f .paying e))
+    by-cases false u e g = stepped-fits (d .reader .stage) (d .room) (d .«max_chunk_size») (d .rows) (d .reader) b refl e some s f
