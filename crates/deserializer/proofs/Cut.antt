@@ -66,7 +66,7 @@ pub record Kept (d : ChunkDeserializer) (payload : List ℕ) (o : Outcome) : Typ
   pub closed : (m : ℕ) → o .answer ≡ more m → o .deserializer .closed ≡ d .closed
   pub long : length (o .payload) ≡ length payload
 
-long-writes : (d : ChunkDeserializer) (payload : List ℕ) (x : ℕ) → length (writes d payload x) ≡ length payload
+pub long-writes : (d : ChunkDeserializer) (payload : List ℕ) (x : ℕ) → length (writes d payload x) ≡ length payload
 unfolding writes
 long-writes d payload x = by-cases (inPayload (d .reader .stage)) (pays (d .room) (d .reader))
   where

@@ -1,4 +1,5 @@
 pub mod Accepts
+pub mod Covers
 pub mod Cut
 pub mod Fields
 pub mod Fitting
@@ -13,3 +14,4 @@ pub mod Runs
 pub mod Sound
 pub mod Table
 pub mod Turning
+pub mod Written

@@ -34,7 +34,7 @@ end-uses Chunk d payload n bytes o u =
 end-uses Message d payload n bytes o u = (omega arith, record { least = omega arith; most = omega arith; whole = λ m e. message-not-more e })
 end-uses (Refuse k) d payload n bytes o u = (omega arith, record { least = omega arith; most = omega arith; whole = λ m e. refused-not-more e })
 
-run-uses : (a : List ℕ) (d : ChunkDeserializer) (payload : List ℕ) (n : ℕ) → Uses n (length a) (run a d payload n .answer)
+pub run-uses : (a : List ℕ) (d : ChunkDeserializer) (payload : List ℕ) (n : ℕ) → Uses n (length a) (run a d payload n .answer)
 unfolding run
 run-uses [] d payload n = record { least = omega arith; most = omega arith; whole = λ m e. let q : n ≡ m = cc in omega (arith, q) }
 run-uses (x ∷ a) d payload n =

@@ -31,14 +31,14 @@ of-number : {o : Outcome} {d : ChunkDeserializer} {r : Reader} {payload rest : L
 of-number f e h = rw e at h
 
 -- the last digit of a number, and those before it
-last-digit : (z e : ℕ) → e < 256 → (z * 256 + e) % 256 ≡ e
+pub last-digit : (z e : ℕ) → e < 256 → (z * 256 + e) % 256 ≡ e
 last-digit z e h = omega arith
 
-other-digits : (z e : ℕ) → e < 256 → (z * 256 + e) / 256 ≡ z
+pub other-digits : (z e : ℕ) → e < 256 → (z * 256 + e) / 256 ≡ z
 other-digits z e h = omega arith
 
 -- four bytes in the other order
-turned : (a b c e : ℕ) → a < 256 → b < 256 → c < 256 → e < 256 → swapped (gather 0 (a ∷ b ∷ c ∷ e ∷ [])) ≡ gather 0 (e ∷ c ∷ b ∷ a ∷ [])
+pub turned : (a b c e : ℕ) → a < 256 → b < 256 → c < 256 → e < 256 → swapped (gather 0 (a ∷ b ∷ c ∷ e ∷ [])) ≡ gather 0 (e ∷ c ∷ b ∷ a ∷ [])
 unfolding littleEndian gather
 turned a b c e ha hb hc he =
     rw (
@@ -51,7 +51,7 @@ turned a b c e ha hb hc he =
       last-digit 0 a ha,
     )
 
-digits : (v : ℕ) → v < 2 ^ 32 → gather 0 (v / 256 / 256 / 256 % 256 ∷ v / 256 / 256 % 256 ∷ v / 256 % 256 ∷ v % 256 ∷ []) ≡ v
+pub digits : (v : ℕ) → v < 2 ^ 32 → gather 0 (v / 256 / 256 / 256 % 256 ∷ v / 256 / 256 % 256 ∷ v / 256 % 256 ∷ v % 256 ∷ []) ≡ v
 unfolding gather
 digits v h =
     let p : v / 256 * 256 + v % 256 ≡ v = omega arith in
