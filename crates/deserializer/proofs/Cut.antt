@@ -1,6 +1,7 @@
 -- An input may be cut anywhere: bytes are taken one by one, so a run over a ++ b is the run over a and, where that asks for more, the run over b from there.
 use Prim.Native.Nat.{ℕ, _+_, _≤_}
 use mathlib.Core.Path.{_≡_, refl, _∙_}
+use mathlib.Core.Logic.{_≢_}
 use mathlib.Core.Bool.{Bool, true, false, cond, not}
 use mathlib.Core.List.{List, [], _∷_, _++_}
 use native.Mathlib.Nat.{add-assoc, add-zero}
@@ -122,3 +123,24 @@ feed-append d a b payload m h =
     let s : goOn b (run a d payload 0) ≡ run b (next d a payload .deserializer) (next d a payload .payload) m = rw (← e, h) in
     next-runs d (a ++ b) payload (p .1) (p .0) ∙ run-append a b d payload 0 ∙ s
     ∙ (rw (q, ← run-shift b (next d a payload .deserializer) (next d a payload .payload) m 0, add-zero))
+
+-- a call that answers otherwise answers the same whatever follows: what it left unread is offered again by the next call
+pub feed-answered : (d : ChunkDeserializer) (a b payload : List ℕ) → ((m : ℕ) → next d a payload .answer ≢ more m) → next d (a ++ b) payload ≡ next d a payload
+unfolding next
+feed-answered d a b payload = by-cases (eqb (d .closed) 0) (ltb (length payload) (d .room))
+  where
+    answered : (o : Outcome) → ((m : ℕ) → o .answer ≢ more m) → goOn b o ≡ o
+    answered o h = by-answer (o .answer) refl
+      where
+        by-answer : (l : Listed) → o .answer ≡ l → goOn b o ≡ o
+        by-answer (more m) e = absurd (h m e)
+        by-answer (message type stream time length used) e = rw e
+        by-answer (refused number used) e = rw e
+
+    by-cases : (t u : Bool)
+        → ((m : ℕ) → cond (not t) (outcome (refused (d .closed) 0) d payload) (cond u (outcome (refused 7 0) d payload) (run a d payload 0)) .answer ≢ more m)
+        → cond (not t) (outcome (refused (d .closed) 0) d payload) (cond u (outcome (refused 7 0) d payload) (run (a ++ b) d payload 0))
+        ≡ cond (not t) (outcome (refused (d .closed) 0) d payload) (cond u (outcome (refused 7 0) d payload) (run a d payload 0))
+    by-cases true true h = refl
+    by-cases true false h = run-append a b d payload 0 ∙ answered (run a d payload 0) h
+    by-cases false u h = refl
