@@ -54,7 +54,7 @@ at r stage = reader stage (r .chunk) (r .message)
 abbrev pub headed : Reader → Row → Reader
 headed r h = reader (r .stage) (current (r .chunk .format) (r .chunk .place) (r .chunk .before) h (r .chunk .left)) (r .message)
 
--- a byte that only goes on; one that is refused, which leaves the reader as it was
+-- a byte that only goes on; one that is refused, at which the reader stays
 abbrev pub go : Reader → Stepped
 go r = record { reader = r; event = Go; place = 64; row = r .chunk .header }
 
