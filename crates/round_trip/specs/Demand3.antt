@@ -126,11 +126,11 @@ tells [] d = telling taken d
 tells (nothing ∷ later) d = telling taken d
 tells (new size ∷ later) d = told d size
 
-abbrev refusals : Size → List Note
+abbrev pub refusals : Size → List Note
 refusals taken = []
 refusals (not-taken number) = refused number ∷ []
 
-abbrev tail : List Tell → List Tell
+abbrev pub tail : List Tell → List Tell
 tail [] = []
 tail (t ∷ later) = later
 
