@@ -9,6 +9,8 @@ use lib.Dec.{ltb, eqb}
 use lib.ListN.{length, getD}
 use borrow.Author.Tests.{eqb-true, eqb-false, le-ltb, lt-ltb, ltb-true, ltb-false}
 use Rattle.deserializer.specs.declared.rows.Row.{Row}
+use Rattle.deserializer.specs.Call.{putAt}
+use Rattle.deserializer.specs.Chunk.{placeOf}
 use Rattle.deserializer.specs.Rows.{claimed, find, free, putRow, rowAt}
 use Rattle.deserializer.proofs.RowLaws.{Alone, Distinct, alone-none, alone-there, distinct-put, find-first, find-other, find-put, find-tells, id-other, id-put, length-putRow, row-other, row-put}
 use Rattle.deserializer.proofs.Sound.{found}
@@ -147,3 +149,25 @@ module _ (rows : List ℕ) (id : ℕ) (l : length rows ≡ 384) (p : 2 ≤ id) (
     others = λ j other a b k. held-other rows (free rows) (claimed id) j other l some (was-free j b) (λ e. a (sym e)) k;
     spare = spare-claim;
   }
+
+-- a row put where the stream's own is, or in a free row that is claimed first
+pub put-moves : (rows : List ℕ) (row : Row) → length rows ≡ 384 → Distinct rows → 2 ≤ row .id → row .id ≤ 6 → row .«message_type_id» < 256 → Spare rows
+    → Moves (row .id) row rows
+    (putAt (cond (ltb (find rows (row .id)) 64) rows (putRow rows (free rows) (claimed (row .id)))) (placeOf rows (row .id)) row)
+put-moves rows row l d p q t s = by-row (ltb (find rows (row .id)) 64) refl
+  where
+    n : row .id ≢ 0
+    n = λ e. omega arith
+
+    by-row : (u : Bool) → ltb (find rows (row .id)) 64 ≡ u
+        → Moves (row .id) row rows
+        (putAt (cond u rows (putRow rows (free rows) (claimed (row .id)))) (cond u (find rows (row .id)) (free rows)) row)
+    by-row true e = rw e (known-moves rows row l d n (ltb-true _ _ e) t)
+    by-row false e =
+        let some = free-some rows s in
+        let none = ltb-false _ _ e in
+        let rows′ = putRow rows (free rows) (claimed (row .id)) in
+        let f : find rows′ (row .id) ≡ free rows = claim-found rows (row .id) l p q none some in
+        let there : find rows′ (row .id) < 64 = rw f some in
+        let m = known-moves rows′ row (length-putRow rows (free rows) (claimed (row .id)) ∙ l) (distinct-put rows (free rows) (claimed (row .id)) l some d (alone-none rows (row .id) (free rows) none)) n there t in
+        rw (lt-ltb (free rows) 64 some) (moves-then (claim-moves rows (row .id) l p q none some) (rw f at m))

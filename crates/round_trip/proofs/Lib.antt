@@ -1,2 +1,6 @@
 pub mod Awaiting
+pub mod First
 pub mod Held
+pub mod Later
+pub mod Taking
+pub mod Wire

@@ -1,0 +1,75 @@
+-- A later chunk of a message is taken: it is of the message's own stream, and says what the row says.
+use Prim.Native.Nat.{ℕ, zero, suc, _+_, _-_, _^_, _≤_, _<_, min}
+use mathlib.Core.Path.{_≡_, refl, sym, ap, _∙_}
+use mathlib.Core.Logic.{_≢_}
+use mathlib.Core.Bool.{Bool, true, false, cond, not, _&&_, _||_, and-false}
+use mathlib.Core.List.{List}
+use native.Mathlib.Omega.{arith}
+use lib.Dec.{ltb, eqb, lit≤}
+use lib.ListN.{length}
+use borrow.Author.Tests.{eq-eqb, ne-eqb, eqb-true, eqb-false, le-ltb, lt-ltb, ltb-true, ltb-false}
+use Rattle.time.specs.Clock.{sum, difference}
+use Rattle.time.proofs.Laws.{sum-comm, sum-difference}
+use Rattle.chunk_header.specs.declared.ChunkHeader.{ChunkHeader}
+use Rattle.chunk_header.specs.declared.ChunkHeaderFormat.{ChunkHeaderFormat}
+use Rattle.chunk_header.specs.declared.ChunkHeaderFormat.the-variants.{Full, TimeDeltaWithoutMessageStreamId, TimeDeltaOnly, Empty}
+use Rattle.chunk_header.specs.Layout.{Chunk, absent, present}
+use Rattle.serializer.specs.declared.format.Message.{Message}
+use Rattle.serializer.specs.Header.{delta, format, header, timeField}
+use Rattle.serializer.specs.Message.{chunkStream}
+use Rattle.serializer.specs.Packet.{chunk, extended, maxField, messageHeader}
+use Rattle.serializer.proofs.Stream.{stream-range}
+use Rattle.deserializer.specs.declared.ChunkDeserializer.{ChunkDeserializer}
+use Rattle.deserializer.specs.declared.rows.Row.{Row}
+use Rattle.deserializer.specs.Chunk.{ChunkFits, ExtendedFits, HeaderFits, basicRefused, headerRefused, row, stored, left, says, inside}
+use Rattle.deserializer.specs.Chunk.{header as headed}
+use Rattle.deserializer.specs.Meaning.{firstRefusal, basicRefusal, laterRefusal, isFull}
+use Rattle.deserializer.specs.Rows.{find, free}
+use Rattle.deserializer.proofs.RowLaws.{find-tells}
+use Rattle.round_trip.proofs.Held.{Held, Spare, free-some}
+use Rattle.serializer.specs.Packet.{laterFormat}
+use Rattle.round_trip.proofs.Wire.{Fits, Taken, extended-fits, fields-fit, row-held, rowFor, says-field}
+
+module _ (d : ChunkDeserializer) (h : ChunkHeader) (piece : List ℕ) (own : d .reader .message .id ≡ h .«chunk_stream_id»)
+    (held : Held (d .rows) (h .«chunk_stream_id») (rowFor h)) (k : Fits h) where
+  abbrev later : Bool → Chunk
+  later forced = chunk (laterFormat forced) h piece
+
+  begun : eqb (d .reader .message .id) 0 ≡ false
+  begun = ne-eqb (d .reader .message .id) 0 (omega (arith, own, k .id-least))
+
+  row-is : (forced : Bool) → row d (later forced) ≡ rowFor h
+  row-is forced = row-held d (later forced) (rowFor h) held
+
+  header-is : (forced : Bool) → headed d (later forced) ≡ rowFor h
+  header-is true = rw (row-is true)
+  header-is false = row-is false
+
+  basic-later : (forced : Bool) → basicRefused d (later forced) ≡ 0
+  unfolding basicRefusal
+  basic-later true = rw (begun, eq-eqb (d .reader .message .id) (h .«chunk_stream_id») own, lt-ltb (find (d .rows) (h .«chunk_stream_id»)) 64 (held .there))
+  basic-later false = rw (begun, eq-eqb (d .reader .message .id) (h .«chunk_stream_id») own)
+
+  head-later : (forced : Bool) → (forced ≡ true → h .«timestamp_field» ≡ h .timestamp .value) → headerRefused d (later forced) ≡ 0
+  unfolding laterRefusal
+  head-later true e =
+      rw (begun, says-field (h .«timestamp_field») (headed d (later true)) refl, row-is true, eq-eqb (h .«message_length») _ refl, eq-eqb (h .«message_type_id») _ refl, eq-eqb (h .«message_stream_id») _ refl, eq-eqb (h .«timestamp_field») (h .timestamp .value) (e refl))
+  head-later false e = rw begun
+
+  fits-later : (forced : Bool) → length piece ≡ min (d .«max_chunk_size») (h .«message_length» - d .reader .message .got) → ChunkFits d (later forced)
+  fits-later forced e = record {
+    head = record {
+      form = (k .id-least, omega (arith, k .id-most));
+      fields = fields-fit (laterFormat forced) h k;
+      extended = extended-fits (h .«timestamp_field») (headed d (later forced)) (rw (header-is forced)) (k .field);
+    };
+    payload = rw (header-is forced, begun) e;
+  }
+
+  stores-later : (forced : Bool) → stored d (later forced) ≡ rowFor h
+  stores-later forced = rw (header-is forced, row-is forced, begun)
+
+  pub later-chunk : (forced : Bool) → (forced ≡ true → h .«timestamp_field» ≡ h .timestamp .value)
+      → length piece ≡ min (d .«max_chunk_size») (h .«message_length» - d .reader .message .got)
+      → Taken d (later forced) h
+  later-chunk forced e l = record { basic = basic-later forced; head = head-later forced e; fits = fits-later forced l; stores = stores-later forced }

@@ -1,0 +1,103 @@
+-- What a chunk that is taken does to the decoder: its row is held, and its message goes on or is handed out.
+use Prim.Native.Nat.{ℕ, _+_, _-_, _≤_, _<_, min}
+use mathlib.Core.Path.{_≡_, refl, sym, ap, _∙_}
+use mathlib.Core.Logic.{_≢_}
+use mathlib.Core.Bool.{Bool, true, false, cond}
+use mathlib.Core.List.{List, [], _∷_, _++_}
+use native.Mathlib.Omega.{arith}
+use lib.Dec.{ltb, eqb}
+use lib.ListN.{length}
+use lib.Seq.{sets}
+use borrow.Author.Tests.{le-ltb, lt-ltb, ltb-true, ltb-false}
+use Rattle.chunk_header.specs.declared.ChunkHeader.{ChunkHeader}
+use Rattle.chunk_header.specs.Layout.{Chunk, chunkBytes}
+use Rattle.deserializer.specs.declared.ChunkDeserializer.{ChunkDeserializer}
+use Rattle.deserializer.specs.declared.reader.Stage.the-variants.{Csid}
+use Rattle.deserializer.specs.declared.rows.Row.{Row}
+use Rattle.deserializer.specs.Answer.{message as found}
+use Rattle.deserializer.specs.Call.{Outcome, after, outcome, run}
+use Rattle.deserializer.specs.Chunk.{got, header, stored}
+use Rattle.deserializer.specs.Rows.{claimed, find, free, putRow}
+use Rattle.deserializer.proofs.Accepts.{accepts}
+use Rattle.deserializer.proofs.Reached.{Reached, run-reached}
+use Rattle.deserializer.proofs.ReadsBack.{claiming, finished}
+use Rattle.deserializer.proofs.RowLaws.{alone-none, distinct-put, length-putRow}
+use Rattle.deserializer.proofs.Runs.{then}
+use Rattle.round_trip.proofs.Held.{Moves, Spare, moves-then, put-moves}
+use Rattle.round_trip.proofs.Wire.{Fits, Taken, rowFor}
+
+-- a decoder between chunks, some chunks of a message after another one: what the message has so far, its row, and all else as it was
+pub record At (d : ChunkDeserializer) (h : ChunkHeader) (id got : ℕ) (d′ : ChunkDeserializer) : Type 0 where
+  pub reached : Reached d′
+  pub stage : d′ .reader .stage ≡ Csid
+  pub message : d′ .reader .message .id ≡ id
+  pub so-far : d′ .reader .message .got ≡ got
+  pub room : d′ .room ≡ d .room
+  pub size : d′ .«max_chunk_size» ≡ d .«max_chunk_size»
+  pub closed : d′ .closed ≡ d .closed
+  pub moves : Moves (h .«chunk_stream_id») (rowFor h) (d .rows) (d′ .rows)
+
+module _ (d : ChunkDeserializer) (c : Chunk) (h : ChunkHeader) (reached : Reached d) (stage : d .reader .stage ≡ Csid) (t : Taken d c h) (k : Fits h)
+    (own : c .id ≡ h .«chunk_stream_id») (spare : Spare (d .rows)) where
+  abbrev taking : ChunkDeserializer
+  taking = after (claiming d (c .id)) (finished d c)
+
+  -- its row is put in the place of its own, or in a free one
+  moves-row : Moves (h .«chunk_stream_id») (rowFor h) (d .rows) (taking .rows)
+  unfolding after
+  moves-row = rw (t .stores, own) (put-moves (d .rows) (rowFor h) (reached .sound .long) (reached .sound .distinct) (k .id-least) (k .id-most) (k .type) spare)
+
+  length-is : header d c .«message_length» ≡ h .«message_length»
+  length-is = ap (λ (r : Row). r .«message_length») (t .stores)
+
+  -- the run over its bytes
+  runs-over : (buffer : List ℕ) (n : ℕ) (rest : List ℕ)
+      → run (chunkBytes c ++ rest) d buffer n
+      ≡ then (claiming d (c .id)) (finished d c) (sets buffer (got d c) (c .payload)) (n + length (chunkBytes c)) rest
+  runs-over buffer n rest = accepts d c reached (t .basic) (t .head) buffer n rest stage (t .fits)
+
+  -- its message goes on
+  module _ (less : got d c + length (c .payload) < h .«message_length») where
+    goes : ltb (got d c + length (c .payload)) (header d c .«message_length») ≡ true
+    goes = lt-ltb (got d c + length (c .payload)) (header d c .«message_length») (omega (arith, less, length-is))
+
+    pub chunk-goes-on : (buffer : List ℕ) (n : ℕ) (rest : List ℕ)
+        → run (chunkBytes c ++ rest) d buffer n ≡ run rest taking (sets buffer (got d c) (c .payload)) (n + length (chunkBytes c))
+    chunk-goes-on buffer n rest = runs-over buffer n rest ∙ rw goes
+
+    pub at-goes-on : At d h (h .«chunk_stream_id») (got d c + length (c .payload)) taking
+    unfolding after
+    at-goes-on = record {
+      reached = rw (chunk-goes-on [] 0 []) at (run-reached (chunkBytes c ++ []) d [] 0 reached);
+      stage = rw goes;
+      message = rw (goes, t .stores);
+      so-far = rw goes;
+      room = rw goes;
+      size = rw goes;
+      closed = rw goes;
+      moves = moves-row;
+    }
+
+  -- or is handed out
+  module _ (whole : h .«message_length» ≤ got d c + length (c .payload)) where
+    ends : ltb (got d c + length (c .payload)) (header d c .«message_length») ≡ false
+    ends = le-ltb (got d c + length (c .payload)) (header d c .«message_length») (omega (arith, whole, length-is))
+
+    pub chunk-ends : (buffer : List ℕ) (n : ℕ) (rest : List ℕ)
+        → run (chunkBytes c ++ rest) d buffer n
+        ≡ outcome (found (h .«message_type_id») (h .«message_stream_id») (h .timestamp .value) (h .«message_length») (n + length (chunkBytes c))) taking
+        (sets buffer (got d c) (c .payload))
+    chunk-ends buffer n rest = runs-over buffer n rest ∙ rw (ends, t .stores)
+
+    pub at-ends : At d h 0 0 taking
+    unfolding after
+    at-ends = record {
+      reached = rw (chunk-ends [] 0 []) at (run-reached (chunkBytes c ++ []) d [] 0 reached);
+      stage = rw ends;
+      message = rw ends;
+      so-far = rw ends;
+      room = rw ends;
+      size = rw ends;
+      closed = rw ends;
+      moves = moves-row;
+    }
