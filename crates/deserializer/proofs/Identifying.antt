@@ -18,9 +18,9 @@ use Rattle.deserializer.specs.declared.reader.Reader.{Reader}
 use Rattle.deserializer.specs.declared.reader.Stage.the-variants.{Csid, CsidSecond, CsidThird}
 use Rattle.deserializer.specs.Call.{after, run}
 use Rattle.deserializer.specs.Chunk.{FormFits}
-use Rattle.deserializer.specs.Machine.{at, basic, go, named}
+use Rattle.deserializer.specs.Machine.{at, basic, named}
 use Rattle.deserializer.proofs.Fields.{Reaches}
-use Rattle.deserializer.proofs.Runs.{run-header}
+use Rattle.deserializer.proofs.Runs.{holding, run-header}
 
 -- the type is the two high bits, whatever the low six
 format-back : (f : ChunkHeaderFormat) (low : ℕ) → low < 64 → formatOf (64 * typeOf f + low) ≡ f
@@ -38,7 +38,7 @@ low-bits t low h = omega arith
 module _ (d : ChunkDeserializer) (r : Reader) (f : ChunkHeaderFormat) (payload : List ℕ) (n : ℕ) (rest : List ℕ) where
   abbrev BasicRead : Form → ℕ → Type 0
   BasicRead form id =
-      Reaches (run (basicBytes form (typeOf f) id ++ rest) (after d (go (at r Csid))) payload n) d
+      Reaches (run (basicBytes form (typeOf f) id ++ rest) (holding d (at r Csid)) payload n) d
       (λ r′. named (d .room) (d .«max_chunk_size») (d .rows) r′ f id) r payload (n + length (basicBytes form (typeOf f) id)) rest
 
   one-byte : (id : ℕ) → 2 ≤ id → id ≤ 63 → BasicRead one id
@@ -47,7 +47,7 @@ module _ (d : ChunkDeserializer) (r : Reader) (f : ChunkHeaderFormat) (payload :
       let b = 64 * typeOf f + id in
       let l : b % 64 ≡ id = low-bits (typeOf f) id (omega arith) in
       let c : csid (b ∷ []) ≡ Id (b % 64) = csid-small (b ∷ []) (omega arith) (λ e. absurd (omega arith)) (λ e. absurd (omega arith)) in
-      record { stage = Csid; reached = run-header b rest (after d (go (at r Csid))) payload n refl ∙ (rw (c, l, format-back f id (omega arith))) }
+      record { stage = Csid; held = at r Csid; reached = run-header b rest (holding d (at r Csid)) payload n refl ∙ (rw (c, l, format-back f id (omega arith))) }
 
   two-bytes : (id : ℕ) → 64 ≤ id → id ≤ 319 → BasicRead two id
   unfolding after
@@ -59,10 +59,11 @@ module _ (d : ChunkDeserializer) (r : Reader) (f : ChunkHeaderFormat) (payload :
       let m : n + 1 + 1 ≡ n + 2 = omega arith in
       record {
         stage = CsidSecond a;
+        held = at r (CsidSecond a);
         reached =
-            run-header a (b ∷ rest) (after d (go (at r Csid))) payload n refl
+            run-header a (b ∷ rest) (holding d (at r Csid)) payload n refl
             ∙ (rw (csid-zero-short (a ∷ []) l (omega arith)))
-            ∙ run-header b rest (after d (go (at r (CsidSecond a)))) payload (n + 1) refl
+            ∙ run-header b rest (holding d (at r (CsidSecond a))) payload (n + 1) refl
             ∙ (rw (csid-zero (a ∷ b ∷ []) l (omega arith), k, format-back f 0 (omega arith), m));
       }
 
@@ -77,12 +78,13 @@ module _ (d : ChunkDeserializer) (r : Reader) (f : ChunkHeaderFormat) (payload :
       let m : n + 1 + 1 + 1 ≡ n + 3 = omega arith in
       record {
         stage = CsidThird a b;
+        held = at r (CsidThird a b);
         reached =
-            run-header a (b ∷ c ∷ rest) (after d (go (at r Csid))) payload n refl
+            run-header a (b ∷ c ∷ rest) (holding d (at r Csid)) payload n refl
             ∙ (rw (csid-one-short (a ∷ []) l (omega arith)))
-            ∙ run-header b (c ∷ rest) (after d (go (at r (CsidSecond a)))) payload (n + 1) refl
+            ∙ run-header b (c ∷ rest) (holding d (at r (CsidSecond a))) payload (n + 1) refl
             ∙ (rw (csid-one-short (a ∷ b ∷ []) l (omega arith)))
-            ∙ run-header c rest (after d (go (at r (CsidThird a b)))) payload (n + 1 + 1) refl
+            ∙ run-header c rest (holding d (at r (CsidThird a b))) payload (n + 1 + 1) refl
             ∙ (rw (csid-one (a ∷ b ∷ c ∷ []) l (omega arith), k, format-back f 1 (omega arith), m));
       }
 

@@ -1,4 +1,5 @@
 pub mod Accepts
+pub mod Closing
 pub mod Covers
 pub mod Cut
 pub mod Fields

@@ -12,9 +12,10 @@ use Rattle.fields.specs.Cases.{_when_, first}
 use Rattle.deserializer.specs.declared.ChunkDeserializer.{ChunkDeserializer}
 use Rattle.deserializer.specs.declared.reader.Event.{Event}
 use Rattle.deserializer.specs.declared.reader.Event.the-variants.{Go, Chunk, Message, Refuse}
+use Rattle.deserializer.specs.declared.reader.Reader.{Reader}
 use Rattle.deserializer.specs.Machine.{inPayload, lacks, pays, reader}
 use Rattle.deserializer.specs.Answer.{refused}
-use Rattle.deserializer.specs.Call.{Outcome, after, closes, end, next, outcome, run, stepOf, writes}
+use Rattle.deserializer.specs.Call.{Outcome, after, closes, end, isRefusal, next, outcome, putAt, run, stepOf, writes}
 use Rattle.deserializer.specs.Told.{between, fresh, made, maxRoom, maxSize, outcome as told-outcome, refused as no-size, sized, taken, told}
 use Rattle.deserializer.proofs.Sound.{Sound, never, step-sound}
 use Rattle.deserializer.proofs.Fitting.{Fits, fitting-fits, lengthOf, paying-pays, quiet-fits, step-fits}
@@ -37,14 +38,26 @@ closes-unguarded (Refuse j) n h k = λ q. h (ap Refuse q)
 pub step-reached : (d : ChunkDeserializer) (b : ℕ) → Reached d → Reached (after d (stepOf d b))
 unfolding after
 step-reached d b k =
-    let s = step-sound d b (k .sound) in
     let f = step-fits d b (k .some) (k .sound) (k .fits) in
+    let e = by-event (isRefusal (stepOf d b .event)) in
     record {
-      sound = s;
+      sound = e .0;
       some = k .some;
-      fits = fitting-fits (d .room) (d .rows) (d .reader .message .id) (stepOf d b) (k .sound .long) s f;
+      fits = e .1;
       unguarded = closes-unguarded (stepOf d b .event) (d .closed) (f .guard) (k .unguarded);
     }
+  where
+    rows-after : Bool → List ℕ
+    rows-after t = cond t (d .rows) (putAt (d .rows) (stepOf d b .place) (stepOf d b .row))
+
+    reader-after : Bool → Reader
+    reader-after t = cond t (d .reader) (stepOf d b .reader)
+
+    by-event : (t : Bool) → Sound (rows-after t) (reader-after t) × Fits (d .room) (lengthOf (rows-after t) (reader-after t .message .id)) (reader-after t)
+    by-event true = (k .sound, k .fits)
+    by-event false =
+        let s = step-sound d b (k .sound) in
+        (s, fitting-fits (d .room) (d .rows) (d .reader .message .id) (stepOf d b) (k .sound .long) s (step-fits d b (k .some) (k .sound) (k .fits)))
 
 end-reached : (e : Event) (d : ChunkDeserializer) (payload : List ℕ) (n : ℕ) (o : Outcome) → Reached d → Reached (o .deserializer)
     → Reached (end e d payload n o .deserializer)

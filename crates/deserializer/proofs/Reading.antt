@@ -23,7 +23,7 @@ use Rattle.deserializer.specs.Chunk.{ExtendedFits, HeaderFits, carried, 
 use Rattle.deserializer.specs.Machine.{at, current, extendedField, extendedNext, fielded, go, headed, lengthed, lengthField, lengthNext, reader, streamed, streamField, streamNext, swapped, timestampField, timestampNext, typed, typeField, typeNext, whole}
 use Rattle.deserializer.specs.Meaning.{maxField}
 use Rattle.deserializer.proofs.Fields.{Reaches, field}
-use Rattle.deserializer.proofs.Runs.{run-header, then}
+use Rattle.deserializer.proofs.Runs.{holding, run-header, then}
 
 -- the same step with the same number
 of-number : {o : Outcome} {d : ChunkDeserializer} {r : Reader} {payload rest : List ℕ} {n x y : ℕ} (f : ℕ → Reader → Stepped) → x ≡ y
@@ -70,7 +70,7 @@ swapped-back v h =
 module _ (d : ChunkDeserializer) (payload : List ℕ) where
   -- the time field, the length, the type, the stream id and the extended time
   time-field : (r : Reader) (v n : ℕ) (rest : List ℕ) → v < 2 ^ 24
-      → Reaches (run (bigEndian 3 v ++ rest) (after d (go (at r (InitialTimestamp 0 3)))) payload n) d
+      → Reaches (run (bigEndian 3 v ++ rest) (holding d (at r (InitialTimestamp 0 3))) payload n) d
       (λ r′. lengthNext (d .room) (d .«max_chunk_size») (headed r′ (fielded (r′ .chunk .header) v))) r payload (n + 1 + 2) rest
   unfolding bigEndian timestampField
   time-field r v n rest h =
@@ -79,7 +79,7 @@ module _ (d : ChunkDeserializer) (payload : List ℕ) where
       _ (bigEndian 2 v) 0 0 n (bytes-big 3 v) (lit< tt) (lit< tt))
 
   length-field : (r : Reader) (v n : ℕ) (rest : List ℕ) → v < 2 ^ 24
-      → Reaches (run (bigEndian 3 v ++ rest) (after d (go (at r (MessageLength 0 3)))) payload n) d
+      → Reaches (run (bigEndian 3 v ++ rest) (holding d (at r (MessageLength 0 3))) payload n) d
       (λ r′. typeNext (d .room) (d .«max_chunk_size») (headed r′ (lengthed (r′ .chunk .header) v))) r payload (n + 1 + 2) rest
   unfolding bigEndian lengthField
   length-field r v n rest h =
@@ -88,15 +88,15 @@ module _ (d : ChunkDeserializer) (payload : List ℕ) where
       _ (bigEndian 2 v) 0 0 n (bytes-big 3 v) (lit< tt) (lit< tt))
 
   type-field : (r : Reader) (v n : ℕ) (rest : List ℕ) → v < 2 ^ 8
-      → run (bigEndian 1 v ++ rest) (after d (go (at r MessageTypeId))) payload n
-      ≡ then d (streamNext (d .room) (d .«max_chunk_size») (headed (at r MessageTypeId) (typed (r .chunk .header) v))) payload (n + 1) rest
+      → run (bigEndian 1 v ++ rest) (holding d (at r MessageTypeId)) payload n
+      ≡ then (holding d (at r MessageTypeId)) (streamNext (d .room) (d .«max_chunk_size») (headed (at r MessageTypeId) (typed (r .chunk .header) v))) payload (n + 1) rest
   unfolding bigEndian typeField after
   type-field r v n rest h =
       let e : v / 256 ^ 0 % 256 ≡ v = omega arith in
-      run-header (v / 256 ^ 0 % 256) rest (after d (go (at r MessageTypeId))) payload n refl ∙ (rw e)
+      run-header (v / 256 ^ 0 % 256) rest (holding d (at r MessageTypeId)) payload n refl ∙ (rw e)
 
   stream-field : (r : Reader) (v n : ℕ) (rest : List ℕ) → v < 2 ^ 32
-      → Reaches (run (littleEndian 4 v ++ rest) (after d (go (at r (MessageStreamId 0 4)))) payload n) d
+      → Reaches (run (littleEndian 4 v ++ rest) (holding d (at r (MessageStreamId 0 4))) payload n) d
       (λ r′. extendedNext (d .room) (d .«max_chunk_size») (headed r′ (streamed (r′ .chunk .header) v))) r payload (n + 1 + 3) rest
   unfolding littleEndian streamField
   stream-field r v n rest h =
@@ -105,7 +105,7 @@ module _ (d : ChunkDeserializer) (payload : List ℕ) where
       _ (littleEndian 3 (v / 256)) 0 0 n (bytes-little 4 v) (lit< tt) (lit< tt))
 
   extended-field : (r : Reader) (v n : ℕ) (rest : List ℕ) → v < 2 ^ 32
-      → Reaches (run (bigEndian 4 v ++ rest) (after d (go (at r (ExtendedTimestamp 0 4)))) payload n) d
+      → Reaches (run (bigEndian 4 v ++ rest) (holding d (at r (ExtendedTimestamp 0 4))) payload n) d
       (λ r′. whole (d .room) (d .«max_chunk_size») r′ v) r payload (n + 1 + 3) rest
   unfolding bigEndian extendedField
   extended-field r v n rest h =
@@ -114,24 +114,24 @@ module _ (d : ChunkDeserializer) (payload : List ℕ) where
       _ (bigEndian 3 v) 0 0 n (bytes-big 4 v) (lit< tt) (lit< tt))
 
   -- a header, from the byte after the basic header to the byte before the extended time
-  module _ (st : Stage) (place : ℕ) (before row : Row) (left : ℕ) (m : Unfinished) where
+  module _ (held : Reader) (st : Stage) (place : ℕ) (before row : Row) (left : ℕ) (m : Unfinished) where
     abbrev begun : Header → Reader
     begun h = reader st (current (formatFor h) place before row left) m
 
     abbrev HeaderRead : Header → ℕ → List ℕ → Type 0
     HeaderRead h n rest =
-        Reaches (then d (timestampNext (d .room) (d .«max_chunk_size») (begun h)) payload n (headerBytes h ++ rest)) d
+        Reaches (then (holding d held) (timestampNext (d .room) (d .«max_chunk_size») (begun h)) payload n (headerBytes h ++ rest)) d
         (λ r. extendedNext (d .room) (d .«max_chunk_size») (headed r (carried h (r .chunk .header)))) (begun h) payload (n + length (headerBytes h)) rest
 
     type-2 : (delta n : ℕ) (rest : List ℕ) → delta < 2 ^ 24 → HeaderRead (type2 delta) n rest
-    unfolding timestampNext lengthNext typeNext streamNext fieldLength
+    unfolding timestampNext lengthNext typeNext streamNext fieldLength after
     type-2 delta n rest h =
         let f = time-field (begun (type2 delta)) delta n rest h in
         let k : n + 1 + 2 ≡ n + length (bigEndian 3 delta) = rw (length-big 3 delta) (omega arith) in
-        record { stage = f .stage; reached = f .reached ∙ (rw k) }
+        record { stage = f .stage; held = f .held; reached = f .reached ∙ (rw k) }
 
     type-1 : (delta long type n : ℕ) (rest : List ℕ) → delta < 2 ^ 24 → long < 2 ^ 24 → type < 2 ^ 8 → HeaderRead (type1 delta long type) n rest
-    unfolding timestampNext lengthNext typeNext streamNext fieldLength
+    unfolding timestampNext lengthNext typeNext streamNext fieldLength after
     type-1 delta long type n rest h i j =
         let r = begun (type1 delta long type) in
         let s = bigEndian 1 type ++ rest in
@@ -143,11 +143,11 @@ module _ (d : ChunkDeserializer) (payload : List ℕ) where
         simp (length-append, length-big) (omega arith)
         in
         let e : headerBytes (type1 delta long type) ++ rest ≡ bigEndian 3 delta ++ (bigEndian 3 long ++ s) = simp append-assoc in
-        record { stage = MessageTypeId; reached = (rw e) ∙ f .reached ∙ g .reached ∙ type-field r2 type (n + 1 + 2 + 1 + 2) rest j ∙ (rw k) }
+        record { stage = MessageTypeId; held = at r2 MessageTypeId; reached = (rw e) ∙ f .reached ∙ g .reached ∙ type-field r2 type (n + 1 + 2 + 1 + 2) rest j ∙ (rw k) }
 
     type-0 : (time long type stream n : ℕ) (rest : List ℕ) → time < 2 ^ 24 → long < 2 ^ 24 → type < 2 ^ 8 → stream < 2 ^ 32
         → HeaderRead (type0 time long type stream) n rest
-    unfolding timestampNext lengthNext typeNext streamNext fieldLength
+    unfolding timestampNext lengthNext typeNext streamNext fieldLength after
     type-0 time long type stream n rest h i j q =
         let r = begun (type0 time long type stream) in
         let t = littleEndian 4 stream ++ rest in
@@ -164,23 +164,24 @@ module _ (d : ChunkDeserializer) (payload : List ℕ) where
         let e : headerBytes (type0 time long type stream) ++ rest ≡ bigEndian 3 time ++ (bigEndian 3 long ++ s) = simp append-assoc in
         record {
           stage = u .stage;
+          held = u .held;
           reached = (rw e) ∙ f .reached ∙ g .reached ∙ type-field r2 type (n + 1 + 2 + 1 + 2) t j ∙ u .reached ∙ (rw k);
         }
 
     pub header-read : (h : Header) (n : ℕ) (rest : List ℕ) → HeaderFits h → HeaderRead h n rest
-    unfolding timestampNext lengthNext typeNext streamNext fieldLength
+    unfolding timestampNext lengthNext typeNext streamNext fieldLength after
     header-read (type0 time long type stream) n rest h = type-0 time long type stream n rest (h .0) (h .1) (h .2) (h .3)
     header-read (type1 delta long type) n rest h = type-1 delta long type n rest (h .0) (h .1) (h .2)
     header-read (type2 delta) n rest h = type-2 delta n rest h
-    header-read type3 n rest h = record { stage = st; reached = rw (add-zero n) }
+    header-read type3 n rest h = record { stage = st; held = held; reached = rw (add-zero n) }
 
   -- the extended time, where the field says that there is one
-  pub extended-read : (e : Extended) (r : Reader) (s : Stage) (n : ℕ) (rest : List ℕ) → ExtendedFits e (r .chunk .header)
-      → Reaches (then d (extendedNext (d .room) (d .«max_chunk_size») (at r s)) payload n (extendedBytes e ++ rest)) d
+  pub extended-read : (held : Reader) (e : Extended) (r : Reader) (s : Stage) (n : ℕ) (rest : List ℕ) → ExtendedFits e (r .chunk .header)
+      → Reaches (then (holding d held) (extendedNext (d .room) (d .«max_chunk_size») (at r s)) payload n (extendedBytes e ++ rest)) d
       (λ r′. whole (d .room) (d .«max_chunk_size») r′ (says e (r .chunk .header))) r payload (n + length (extendedBytes e)) rest
-  unfolding extendedNext
-  extended-read absent r s n rest h = record { stage = s; reached = rw (ne-eqb (r .chunk .header .«timestamp_field») maxField h, add-zero n) }
-  extended-read (present time) r s n rest h =
+  unfolding extendedNext after
+  extended-read held absent r s n rest h = record { stage = s; held = held; reached = rw (ne-eqb (r .chunk .header .«timestamp_field») maxField h, add-zero n) }
+  extended-read held (present time) r s n rest h =
       let f = extended-field r time n rest (h .1) in
       let k : n + 1 + 3 ≡ n + length (bigEndian 4 time) = rw (length-big 4 time) (omega arith) in
-      record { stage = f .stage; reached = (rw (eq-eqb (r .chunk .header .«timestamp_field») maxField (h .0))) ∙ f .reached ∙ (rw k) }
+      record { stage = f .stage; held = f .held; reached = (rw (eq-eqb (r .chunk .header .«timestamp_field») maxField (h .0))) ∙ f .reached ∙ (rw k) }

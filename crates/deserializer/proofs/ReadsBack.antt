@@ -19,7 +19,7 @@ use Rattle.deserializer.specs.declared.reader.Reader.{Reader}
 use Rattle.deserializer.specs.declared.reader.Stage.{Stage}
 use Rattle.deserializer.specs.declared.reader.Stage.the-variants.{Csid, MessagePayload}
 use Rattle.deserializer.specs.declared.reader.Stepped.{Stepped}
-use Rattle.deserializer.specs.Call.{after, run}
+use Rattle.deserializer.specs.Call.{after, isRefusal, run}
 use Rattle.deserializer.specs.Chunk.{ChunkFits, FormFits, HeadFits, basicRefused, formatFor, got, header, headerRefused, inside, left, placeOf, row, says, stored}
 use Rattle.deserializer.specs.Machine.{at, current, go, landed, named, opens, reader, refuse, timestampNext, unfinished, whole}
 use Rattle.deserializer.specs.Meaning.{basicRefusal, firstRefusal, laterRefusal}
@@ -28,7 +28,7 @@ use Rattle.deserializer.proofs.Fields.{Reaches}
 use Rattle.deserializer.proofs.Identifying.{basic-read}
 use Rattle.deserializer.proofs.Naming.{named-refused}
 use Rattle.deserializer.proofs.Reading.{extended-read, header-read}
-use Rattle.deserializer.proofs.Runs.{bulk, then}
+use Rattle.deserializer.proofs.Runs.{bulk, held-forgotten, holding, then}
 
 -- the decoder once a stream has its row
 abbrev pub claiming : ChunkDeserializer → ℕ → ChunkDeserializer
@@ -62,7 +62,7 @@ type-for (type2 delta) = refl
 type-for type3 = refl
 
 -- a decoder between chunks is one whose reader has just been put there
-put-between : (d : ChunkDeserializer) → d .reader .stage ≡ Csid → after d (go (at (d .reader) Csid)) ≡ d
+put-between : (d : ChunkDeserializer) → d .reader .stage ≡ Csid → holding d (at (d .reader) Csid) ≡ d
 unfolding after
 put-between d s = rw (← s)
 
@@ -102,15 +102,15 @@ module _ (d : ChunkDeserializer) (c : Chunk) (payload : List ℕ) where
   abbrev read : Stage → Reader
   read st = reader st (current (formatFor (c .header)) (placeOf (d .rows) (c .id)) (row d c) (header d c) 0) (d .reader .message)
 
-  begins : (st : Stage) (m : ℕ) (rest : List ℕ) → basicRefused d c ≡ 0 → (ltb (find (d .rows) (c .id)) 64 ≡ false → formatFor (c .header) ≡ Full)
-      → then d (named (d .room) (d .«max_chunk_size») (d .rows) (at (d .reader) st) (formatFor (c .header)) (c .id)) payload m rest
-      ≡ then (claiming d (c .id)) (timestampNext (d .room) (d .«max_chunk_size») (reading st)) payload m rest
+  begins : (held : Reader) (st : Stage) (m : ℕ) (rest : List ℕ) → basicRefused d c ≡ 0 → (ltb (find (d .rows) (c .id)) 64 ≡ false → formatFor (c .header) ≡ Full)
+      → then (holding d held) (named (d .room) (d .«max_chunk_size») (d .rows) (at (d .reader) st) (formatFor (c .header)) (c .id)) payload m rest
+      ≡ then (holding (claiming d (c .id)) held) (timestampNext (d .room) (d .«max_chunk_size») (reading st)) payload m rest
   unfolding named timestampNext fieldLength after
-  begins st m rest k f = by-row (ltb (find (d .rows) (c .id)) 64) refl
+  begins held st m rest k f = by-row (ltb (find (d .rows) (c .id)) 64) refl
     where
       by-row : (t : Bool) → ltb (find (d .rows) (c .id)) 64 ≡ t
-          → then d (named (d .room) (d .«max_chunk_size») (d .rows) (at (d .reader) st) (formatFor (c .header)) (c .id)) payload m rest
-          ≡ then (claiming d (c .id)) (timestampNext (d .room) (d .«max_chunk_size») (reading st)) payload m rest
+          → then (holding d held) (named (d .room) (d .«max_chunk_size») (d .rows) (at (d .reader) st) (formatFor (c .header)) (c .id)) payload m rest
+          ≡ then (holding (claiming d (c .id)) held) (timestampNext (d .room) (d .«max_chunk_size») (reading st)) payload m rest
       by-row true e = rw (k, e)
       by-row false e =
           let q = f e in
@@ -177,29 +177,40 @@ module _ (d : ChunkDeserializer) (c : Chunk) (payload : List ℕ) where
       by-rest true q = rw (none, q)
       by-rest false q = rw (none, q)
 
+  -- the end of a chunk is no refusal ..
+  not-refused : (t : Bool) → isRefusal (cond t ChunkEnds Message) ≡ false
+  not-refused true = refl
+  not-refused false = refl
+
+  -- .. so the reader that was held does not matter
+  finishes : (held : Reader) (p : List ℕ) (n : ℕ) (rest : List ℕ)
+      → then (holding (claiming d (c .id)) held) (finished d c) p n rest ≡ then (claiming d (c .id)) (finished d c) p n rest
+  finishes held p n rest = held-forgotten (claiming d (c .id)) held (finished d c) p n rest (not-refused (ltb (got d c + length (c .payload)) (header d c .«message_length»)))
+
   -- the payload, from the last byte of the header on
-  fills : (st : Stage) (n : ℕ) (rest : List ℕ) → length (c .payload) ≡ left d c → Within d c
-      → then (claiming d (c .id)) (opens (d .«max_chunk_size») (settled st) (got d c)) payload n (c .payload ++ rest)
+  fills : (held : Reader) (st : Stage) (n : ℕ) (rest : List ℕ) → length (c .payload) ≡ left d c → Within d c
+      → then (holding (claiming d (c .id)) held) (opens (d .«max_chunk_size») (settled st) (got d c)) payload n (c .payload ++ rest)
       ≡ then (claiming d (c .id)) (finished d c) (sets payload (got d c) (c .payload)) (n + length (c .payload)) rest
   unfolding after
-  fills st n rest e w = by-length (eqb (header d c .«message_length») 0) refl
+  fills held st n rest e w = by-length (eqb (header d c .«message_length») 0) refl
     where
       empty : header d c .«message_length» ≡ 0 → length (c .payload) ≡ 0
       empty q = omega (arith, e, q)
 
       by-length : (t : Bool) → eqb (header d c .«message_length») 0 ≡ t
-          → then (claiming d (c .id)) (opens (d .«max_chunk_size») (settled st) (got d c)) payload n (c .payload ++ rest)
+          → then (holding (claiming d (c .id)) held) (opens (d .«max_chunk_size») (settled st) (got d c)) payload n (c .payload ++ rest)
           ≡ then (claiming d (c .id)) (finished d c) (sets payload (got d c) (c .payload)) (n + length (c .payload)) rest
       by-length true t =
           let q = eqb-true (header d c .«message_length») 0 t in
           let z : c .payload ≡ [] = no-elements (c .payload) (empty q) in
-          rw (no-bytes st q, z, add-zero n)
+          (rw (no-bytes st q)) ∙ finishes held payload n (c .payload ++ rest) ∙ (rw (z, add-zero n))
       by-length false t =
           let q = eqb-false (header d c .«message_length») 0 t in
           let b = w q in
           (rw (opens-payload st q))
-          ∙ bulk (c .payload) rest (after (claiming d (c .id)) (go paying)) payload n refl (omega (arith, e, b .0)) (omega (arith, e)) (b .1)
+          ∙ bulk (c .payload) rest (holding (claiming d (c .id)) paying) payload n refl (omega (arith, e, b .0)) (omega (arith, e)) (b .1)
           ∙ (rw (lands e))
+          ∙ finishes paying (sets payload (got d c) (c .payload)) (n + length (c .payload)) rest
 
   parts : (rest : List ℕ) → chunkBytes c ++ rest ≡ basicOf c ++ (headOf c ++ (extendedOf c ++ (c .payload ++ rest)))
   unfolding chunkBytes
@@ -224,13 +235,14 @@ module _ (d : ChunkDeserializer) (c : Chunk) (payload : List ℕ) where
       let n1 = n + length (basicOf c) in
       let n2 = n1 + length (headOf c) in
       let b = basic-back n (headOf c ++ (extendedOf c ++ rest)) s (fits .form) in
-      let h = header-read (claiming d (c .id)) payload (b .stage) (placeOf (d .rows) (c .id)) (row d c) (row d c) 0 (d .reader .message) (c .header) n1 (extendedOf c ++ rest) (fits .fields) in
-      let x = extended-read (claiming d (c .id)) payload (c .extended) (read Csid) (h .stage) n2 rest (fits .extended) in
+      let h = header-read (claiming d (c .id)) payload (b .held) (b .stage) (placeOf (d .rows) (c .id)) (row d c) (row d c) 0 (d .reader .message) (c .header) n1 (extendedOf c ++ rest) (fits .fields) in
+      let x = extended-read (claiming d (c .id)) payload (h .held) (c .extended) (read Csid) (h .stage) n2 rest (fits .extended) in
       record {
         stage = x .stage;
+        held = x .held;
         reached =
             b .reached
-            ∙ begins (b .stage) n1 (headOf c ++ (extendedOf c ++ rest)) k f
+            ∙ begins (b .held) (b .stage) n1 (headOf c ++ (extendedOf c ++ rest)) k f
             ∙ h .reached
             ∙ x .reached;
       }
@@ -244,7 +256,7 @@ module _ (d : ChunkDeserializer) (c : Chunk) (payload : List ℕ) where
       (rw (parts rest))
       ∙ h .reached
       ∙ (rw (settles (h .stage) j))
-      ∙ fills (h .stage) n3 rest (fits .payload) w
+      ∙ fills (h .held) (h .stage) n3 rest (fits .payload) w
       ∙ (rw (parts-length n))
 
   -- a chunk that is refused at the end of its basic header, whatever follows
@@ -254,6 +266,7 @@ module _ (d : ChunkDeserializer) (c : Chunk) (payload : List ℕ) where
       let b = basic-back n rest s fits in
       record {
         stage = b .stage;
+        held = b .held;
         reached =
             b .reached
             ∙ (rw (← named-refused (d .room) (d .«max_chunk_size») (d .rows) (at (d .reader) (b .stage)) (formatFor (c .header)) (c .id) (find (d .rows) (c .id)) (free (d .rows)) (basicRefused d c) refl refl refl k));
@@ -265,4 +278,4 @@ module _ (d : ChunkDeserializer) (c : Chunk) (payload : List ℕ) where
       (n + length (basicOf c) + length (headOf c) + length (extendedOf c)) rest
   refused-header n rest s fits k j f =
       let h = headed-back n rest s fits k f in
-      record { stage = h .stage; reached = h .reached ∙ (rw (settles-not (h .stage) j)) }
+      record { stage = h .stage; held = h .held; reached = h .reached ∙ (rw (settles-not (h .stage) j)) }

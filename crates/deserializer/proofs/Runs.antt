@@ -2,12 +2,12 @@
 use Prim.Native.Nat.{ℕ, suc, _+_, _-_, _≤_, _<_}
 use mathlib.Core.Path.{_≡_, refl, sym, ap, _∙_}
 use mathlib.Core.Logic.{_≢_}
-use mathlib.Core.Bool.{Bool, true, false, not, _&&_}
+use mathlib.Core.Bool.{Bool, true, false, cond, not, _&&_}
 use mathlib.Core.List.{List, [], _∷_, _++_}
 use native.Mathlib.Omega.{arith}
 use native.Mathlib.Nat.{not-suc-le-zero}
 use native.Mathlib.Numerals.{add-one}
-use lib.Dec.{eqb, leb}
+use lib.Dec.{eqb, leb, ltb}
 use lib.ListN.{length, take, drop, getD, set, length-take, length-drop, take-append-drop, drop-of-length-le}
 use lib.Seq.{sets, drop-drop, drop-cons}
 use borrow.Author.Tests.{eq-eqb, ne-eqb, eqb-false, le-leb, leb-true, lt-ltb, le-ltb}
@@ -15,13 +15,23 @@ use Rattle.deserializer.specs.declared.ChunkDeserializer.{ChunkDeseriali
 use Rattle.deserializer.specs.declared.reader.Reader.{Reader}
 use Rattle.deserializer.specs.declared.reader.Stepped.{Stepped}
 use Rattle.deserializer.specs.Answer.{more, refused}
-use Rattle.deserializer.specs.Call.{Outcome, outcome, stepOf, writes, after, run, next}
-use Rattle.deserializer.specs.Machine.{inPayload, go, paid, pays, landed, refuse, stepped}
+use Rattle.deserializer.specs.Call.{Outcome, outcome, isRefusal, stepOf, writes, after, run, next}
+use Rattle.deserializer.specs.Machine.{inPayload, ended, go, paid, paused, pays, landed, refuse, stepped}
 use Rattle.deserializer.specs.Turn.{follows}
 
 -- what follows a step of a decoder
 abbrev pub then : ChunkDeserializer → Stepped → List ℕ → ℕ → List ℕ → Outcome
 then d s payload used rest = follows (s .event) (after d s) payload used rest
+
+-- the decoder with another reader
+abbrev pub holding : ChunkDeserializer → Reader → ChunkDeserializer
+holding d r = after d (go r)
+
+-- a step that is not refused does not look at the reader that was held
+pub held-forgotten : (d : ChunkDeserializer) (held : Reader) (s : Stepped) (payload : List ℕ) (n : ℕ) (rest : List ℕ) → isRefusal (s .event) ≡ false
+    → then (holding d held) s payload n rest ≡ then d s payload n rest
+unfolding after
+held-forgotten d held s payload n rest h = rw h
 
 -- a reader that may take payload: its chunk lacks a byte, and ends within the room
 pub pays-is : (room : ℕ) (r : Reader) → 0 < r .chunk .left → r .message .got + r .chunk .left ≤ room → pays room r ≡ true
@@ -72,6 +82,16 @@ landed-next r k =
     let f : r .chunk .left - 1 - k ≡ r .chunk .left - suc k = omega arith in
     rw (e, f)
 
+-- payload is not refused
+landed-not-refused : (r : Reader) (n : ℕ) → isRefusal (landed r n .event) ≡ false
+unfolding landed
+landed-not-refused r n = by-cases (eqb (r .chunk .left - n) 0) (ltb (r .message .got + n) (r .chunk .header .«message_length»)) (paid r (r .message .got + n) (r .chunk .left - n))
+  where
+    by-cases : (t u : Bool) (r′ : Reader) → isRefusal (cond t (cond u (paused r′ (r′ .message .got)) (ended r′)) (go r′) .event) ≡ false
+    by-cases true true r′ = refl
+    by-cases true false r′ = refl
+    by-cases false u r′ = refl
+
 -- a run over payload bytes of one chunk
 pub bulk : (xs rest : List ℕ) (d : ChunkDeserializer) (payload : List ℕ) (n : ℕ) → inPayload (d .reader .stage) ≡ true → 0 < length xs
     → length xs ≤ d .reader .chunk .left → d .reader .message .got + d .reader .chunk .left ≤ d .room
@@ -83,7 +103,8 @@ bulk (x ∷ y ∷ xs) rest d payload n s h k r =
     let e : n + 1 + length (y ∷ xs) ≡ n + length (x ∷ y ∷ xs) = omega arith in
     run-payload x (y ∷ xs ++ rest) d payload n s (pays-is (d .room) (d .reader) (omega arith) r)
     ∙ (rw (landed-first (d .reader) (omega arith)))
-    ∙ bulk (y ∷ xs) rest (after d (go (nearer (d .reader)))) (set payload (d .reader .message .got) x) (n + 1) refl (omega arith) (omega arith) (omega arith)
+    ∙ bulk (y ∷ xs) rest (holding d (nearer (d .reader))) (set payload (d .reader .message .got) x) (n + 1) refl (omega arith) (omega arith) (omega arith)
+    ∙ held-forgotten d (nearer (d .reader)) (landed (nearer (d .reader)) (length (y ∷ xs))) _ _ rest (landed-not-refused (nearer (d .reader)) (length (y ∷ xs)))
     ∙ (rw (landed-next (d .reader) (length (y ∷ xs)), e, add-one))
 
 -- the same at a place of the input

@@ -1,6 +1,6 @@
 -- A call of the decoder: a run of single bytes that stops at the first message or refusal (document 01, "Decoder").
 use Prim.Native.Nat.{ℕ, _+_}
-use mathlib.Core.Bool.{cond, not}
+use mathlib.Core.Bool.{Bool, true, false, cond, not}
 use mathlib.Core.List.{List, [], _∷_}
 use lib.Dec.{ltb, eqb}
 use lib.ListN.{length, set}
@@ -36,13 +36,21 @@ closes Chunk n = n
 closes Message n = n
 closes (Refuse k) n = k
 
+-- whether a byte is refused
+abbrev pub isRefusal : Event → Bool
+isRefusal Go = false
+isRefusal Chunk = false
+isRefusal Message = false
+isRefusal (Refuse k) = true
+
+-- a closing refusal changes only the closed number: it leaves the reader and every row as they were
 unfoldable pub after : ChunkDeserializer → Stepped → ChunkDeserializer
 after d s = record {
   room = d .room;
   «max_chunk_size» = d .«max_chunk_size»;
   closed = closes (s .event) (d .closed);
-  reader = s .reader;
-  rows = putAt (d .rows) (s .place) (s .row);
+  reader = cond (isRefusal (s .event)) (d .reader) (s .reader);
+  rows = cond (isRefusal (s .event)) (d .rows) (putAt (d .rows) (s .place) (s .row));
 }
 
 -- the answer, the decoder and the payload buffer after a call

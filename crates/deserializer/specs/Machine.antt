@@ -54,7 +54,7 @@ at r stage = reader stage (r .chunk) (r .message)
 abbrev pub headed : Reader → Row → Reader
 headed r h = reader (r .stage) (current (r .chunk .format) (r .chunk .place) (r .chunk .before) h (r .chunk .left)) (r .message)
 
--- a byte that only goes on; one that is refused, at which the reader stays
+-- a byte that only goes on; one that is refused, of which only the number is kept
 abbrev pub go : Reader → Stepped
 go r = record { reader = r; event = Go; place = 64; row = r .chunk .header }
 

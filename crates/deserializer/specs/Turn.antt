@@ -8,6 +8,7 @@ use Rattle.deserializer.specs.declared.ChunkDeserializer.{ChunkDeseriali
 use Rattle.deserializer.specs.declared.call.Core.{Core}
 use Rattle.deserializer.specs.declared.call.Moved.{Moved}
 use Rattle.deserializer.specs.declared.reader.Event.{Event}
+use Rattle.deserializer.specs.declared.reader.Reader.{Reader}
 use Rattle.deserializer.specs.declared.reader.Stepped.{Stepped}
 use Rattle.deserializer.specs.Machine.{inPayload}
 use Rattle.deserializer.specs.Call.{Outcome, after, end, run}
@@ -15,6 +16,10 @@ use Rattle.deserializer.specs.Call.{Outcome, after, end, run}
 -- the small part of a decoder and its rows
 abbrev pub whole : Core → List ℕ → ChunkDeserializer
 whole c rows = record { room = c .room; «max_chunk_size» = c .«max_chunk_size»; closed = c .closed; reader = c .reader; rows = rows }
+
+-- the small part of a decoder with another closed number and another reader
+abbrev pub changed : Core → ℕ → Reader → Core
+changed c closed reader = record { room = c .room; «max_chunk_size» = c .«max_chunk_size»; closed = closed; reader = reader }
 
 -- what a step says is kept
 pub record Keeps (c : Core) (rows : List ℕ) (s : Stepped) (at : ℕ) (r : Moved) (rows′ : List ℕ) : Type 0 where

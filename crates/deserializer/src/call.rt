@@ -2,8 +2,8 @@
 ghost use mathlib.Core.Path.{_≡_};
 ghost use Prim.Native.Nat.{_≤_, _<_, min};
 ghost use lib.ListN.{length};
-ghost use Rattle.deserializer.specs.Call.{closes as Call·closes, putAt};
-ghost use Rattle.deserializer.specs.Turn.{Keeps, Pays, Turned};
+ghost use Rattle.deserializer.specs.Call.{closes as Call·closes, isRefusal, putAt};
+ghost use Rattle.deserializer.specs.Turn.{Keeps, Pays, Turned, changed as Turn·changed};
 use crate::parts::refuse;
 use crate::payload::in_payload;
 use crate::payload::landed;
@@ -71,22 +71,48 @@ fn closes(event: Event, closed: u8) -> u8
     }
 }
 
-// Keeps what a step says.
+fn is_refusal(event: Event) -> bool
+    ensures { λ r. ⌜ r ≡ isRefusal event ⌝ }
+{
+    match event {
+        Event::Go => false,
+        Event::Chunk => false,
+        Event::Message => false,
+        Event::Refuse(_) => true,
+    }
+}
+
+// The decoder with another closed number and another reader.
+fn changed(core: Core, closed: u8, reader: Reader) -> Core
+    ensures { λ r. ⌜ r ≡ Turn·changed core closed reader ⌝ }
+{
+    Core {
+        room: core.room,
+        max_chunk_size: core.max_chunk_size,
+        closed: closed,
+        reader: reader,
+    }
+}
+
+// Keeps what a step says. A closing refusal changes only the closed number.
 fn keep(core: Core, rows: &mut [u32; 384], stepped: Stepped, at: usize) -> Moved
     ensures { λ r. ⌜ Keeps core (now (rows .entry)) stepped at r (now (rows .exit)) ⌝ }
 {
+    let event = stepped.event;
+    let closed = closes(event, core.closed);
+    if is_refusal(event) {
+        let before = core.reader;
+        return Moved {
+            core: changed(core, closed, before),
+            event: event,
+            at: at,
+        };
+    }
     let row = stepped.row;
     put_at(rows, stepped.place, row);
-    let event = stepped.event;
     let reader = stepped.reader;
-    let closed = closes(event, core.closed);
     Moved {
-        core: Core {
-            room: core.room,
-            max_chunk_size: core.max_chunk_size,
-            closed: closed,
-            reader: reader,
-        },
+        core: changed(core, closed, reader),
         event: event,
         at: at,
     }

@@ -105,7 +105,7 @@ pub fn go(reader: Reader) -> Stepped
     }
 }
 
-// A byte that is refused, at which the reader stays.
+// A byte that is refused, of which only the number is kept.
 pub fn refuse(reader: Reader, number: u8) -> Stepped
     ensures { λ r. ⌜ r ≡ Machine·refuse reader number ⌝ }
 {
