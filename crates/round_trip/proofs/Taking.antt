@@ -12,11 +12,13 @@ use borrow.Author.Tests.{le-ltb, lt-ltb, ltb-true, ltb-false}
 use Rattle.chunk_header.specs.declared.ChunkHeader.{ChunkHeader}
 use Rattle.chunk_header.specs.Layout.{Chunk, chunkBytes}
 use Rattle.deserializer.specs.declared.ChunkDeserializer.{ChunkDeserializer}
+use Rattle.deserializer.specs.declared.reader.Event.{Event}
+use Rattle.deserializer.specs.declared.reader.Event.the-variants.{Message}
 use Rattle.deserializer.specs.declared.reader.Stage.the-variants.{Csid}
 use Rattle.deserializer.specs.declared.rows.Row.{Row}
 use Rattle.deserializer.specs.Answer.{message as found}
-use Rattle.deserializer.specs.Call.{Outcome, after, outcome, run}
-use Rattle.deserializer.specs.Chunk.{got, header, stored}
+use Rattle.deserializer.specs.Call.{Outcome, after, end, outcome, putAt, run}
+use Rattle.deserializer.specs.Chunk.{got, header, placeOf, stored}
 use Rattle.deserializer.specs.Rows.{claimed, find, free, putRow}
 use Rattle.deserializer.proofs.Accepts.{accepts}
 use Rattle.deserializer.proofs.Reached.{Reached, run-reached}
@@ -37,14 +39,29 @@ pub record At (d : ChunkDeserializer) (h : ChunkHeader) (id got : ℕ) (d′ : C
   pub closed : d′ .closed ≡ d .closed
   pub moves : Moves (h .«chunk_stream_id») (rowFor h) (d .rows) (d′ .rows)
 
+-- a chunk after which its message goes on: the run goes on after it, from a decoder between chunks
+pub record Onward (d : ChunkDeserializer) (c : Chunk) (h : ChunkHeader) : Type 0 where
+  pub decoder : ChunkDeserializer
+  pub runs : (buffer : List ℕ) (n : ℕ) (rest : List ℕ)
+      → run (chunkBytes c ++ rest) d buffer n ≡ run rest decoder (sets buffer (got d c) (c .payload)) (n + length (chunkBytes c))
+  pub at : At d h (h .«chunk_stream_id») (got d c + length (c .payload)) decoder
+
+-- and one with which its message ends, and is handed out
+pub record Last (d : ChunkDeserializer) (c : Chunk) (h : ChunkHeader) : Type 0 where
+  pub decoder : ChunkDeserializer
+  pub runs : (buffer : List ℕ) (n : ℕ) (rest : List ℕ)
+      → run (chunkBytes c ++ rest) d buffer n
+      ≡ outcome (found (h .«message_type_id») (h .«message_stream_id») (h .timestamp .value) (h .«message_length») (n + length (chunkBytes c))) decoder
+      (sets buffer (got d c) (c .payload))
+  pub at : At d h 0 0 decoder
+
 module _ (d : ChunkDeserializer) (c : Chunk) (h : ChunkHeader) (reached : Reached d) (stage : d .reader .stage ≡ Csid) (t : Taken d c h) (k : Fits h)
     (own : c .id ≡ h .«chunk_stream_id») (spare : Spare (d .rows)) where
   abbrev taking : ChunkDeserializer
   taking = after (claiming d (c .id)) (finished d c)
 
   -- its row is put in the place of its own, or in a free one
-  moves-row : Moves (h .«chunk_stream_id») (rowFor h) (d .rows) (taking .rows)
-  unfolding after
+  moves-row : Moves (h .«chunk_stream_id») (rowFor h) (d .rows) (putAt (claiming d (c .id) .rows) (placeOf (d .rows) (c .id)) (stored d c))
   moves-row = rw (t .stores, own) (put-moves (d .rows) (rowFor h) (reached .sound .long) (reached .sound .distinct) (k .id-least) (k .id-most) (k .type) spare)
 
   length-is : header d c .«message_length» ≡ h .«message_length»
@@ -61,43 +78,69 @@ module _ (d : ChunkDeserializer) (c : Chunk) (h : ChunkHeader) (reached : Reache
     goes : ltb (got d c + length (c .payload)) (header d c .«message_length») ≡ true
     goes = lt-ltb (got d c + length (c .payload)) (header d c .«message_length») (omega (arith, less, length-is))
 
-    pub chunk-goes-on : (buffer : List ℕ) (n : ℕ) (rest : List ℕ)
+    goes-on : (buffer : List ℕ) (n : ℕ) (rest : List ℕ)
         → run (chunkBytes c ++ rest) d buffer n ≡ run rest taking (sets buffer (got d c) (c .payload)) (n + length (chunkBytes c))
-    chunk-goes-on buffer n rest = runs-over buffer n rest ∙ rw goes
+    goes-on buffer n rest = runs-over buffer n rest ∙ rw goes
 
-    pub at-goes-on : At d h (h .«chunk_stream_id») (got d c + length (c .payload)) taking
+    goes-reached : Reached taking
+    unfolding run
+    goes-reached = rw (goes-on [] 0 []) at (run-reached (chunkBytes c ++ []) d [] 0 reached)
+
+    at-goes-on : At d h (h .«chunk_stream_id») (got d c + length (c .payload)) taking
     unfolding after
     at-goes-on = record {
-      reached = rw (chunk-goes-on [] 0 []) at (run-reached (chunkBytes c ++ []) d [] 0 reached);
+      reached = goes-reached;
       stage = rw goes;
-      message = rw (goes, t .stores);
+      message = rw goes (ap (λ (r : Row). r .id) (t .stores));
       so-far = rw goes;
-      room = rw goes;
-      size = rw goes;
+      room = refl;
+      size = refl;
       closed = rw goes;
-      moves = moves-row;
+      moves = rw goes moves-row;
     }
+
+    pub chunk-goes-on : Onward d c h
+    chunk-goes-on = record { decoder = taking; runs = goes-on; at = at-goes-on }
 
   -- or is handed out
   module _ (whole : h .«message_length» ≤ got d c + length (c .payload)) where
     ends : ltb (got d c + length (c .payload)) (header d c .«message_length») ≡ false
     ends = le-ltb (got d c + length (c .payload)) (header d c .«message_length») (omega (arith, whole, length-is))
 
-    pub chunk-ends : (buffer : List ℕ) (n : ℕ) (rest : List ℕ)
+    says : taking .reader .chunk .header ≡ rowFor h
+    unfolding after
+    says = rw ends (t .stores)
+
+    event-is : finished d c .event ≡ Message
+    event-is = rw ends
+
+    hands : (buffer : List ℕ) (n : ℕ) (rest : List ℕ)
         → run (chunkBytes c ++ rest) d buffer n
         ≡ outcome (found (h .«message_type_id») (h .«message_stream_id») (h .timestamp .value) (h .«message_length») (n + length (chunkBytes c))) taking
         (sets buffer (got d c) (c .payload))
-    chunk-ends buffer n rest = runs-over buffer n rest ∙ rw (ends, t .stores)
+    hands buffer n rest =
+        let buffer′ = sets buffer (got d c) (c .payload) in
+        let n′ = n + length (chunkBytes c) in
+        runs-over buffer n rest
+        ∙ ap (λ (e : Event). end e taking buffer′ n′ (run rest taking buffer′ n′)) event-is
+        ∙ ap (λ (r : Row). outcome (found (r .«message_type_id») (r .«message_stream_id») (r .timestamp .value) (r .«message_length») n′) taking buffer′) says
 
-    pub at-ends : At d h 0 0 taking
+    ends-reached : Reached taking
+    unfolding run
+    ends-reached = rw (hands [] 0 []) at (run-reached (chunkBytes c ++ []) d [] 0 reached)
+
+    at-ends : At d h 0 0 taking
     unfolding after
     at-ends = record {
-      reached = rw (chunk-ends [] 0 []) at (run-reached (chunkBytes c ++ []) d [] 0 reached);
+      reached = ends-reached;
       stage = rw ends;
       message = rw ends;
       so-far = rw ends;
-      room = rw ends;
-      size = rw ends;
+      room = refl;
+      size = refl;
       closed = rw ends;
-      moves = moves-row;
+      moves = rw ends moves-row;
     }
+
+    pub chunk-ends : Last d c h
+    chunk-ends = record { decoder = taking; runs = hands; at = at-ends }
