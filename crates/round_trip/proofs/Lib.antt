@@ -1,7 +1,9 @@
+pub mod Agreeing
 pub mod Awaiting
 pub mod First
 pub mod Held
 pub mod Later
+pub mod Packets
 pub mod Reading
 pub mod Taking
 pub mod Wire
