@@ -1,9 +1,11 @@
 pub mod Agreeing
 pub mod Awaiting
+pub mod Demand3
 pub mod First
 pub mod Held
 pub mod Later
 pub mod Packets
 pub mod Reading
+pub mod Sent
 pub mod Taking
 pub mod Wire
