@@ -10,10 +10,10 @@ use borrow.Author.Tests.{eqb-true, eqb-false, ltb-true, ltb-false}
 use Rattle.deserializer.specs.declared.ChunkDeserializer.{ChunkDeserializer}
 use Rattle.deserializer.specs.declared.reader.Event.{Event}
 use Rattle.deserializer.specs.declared.reader.Event.the-variants.{Go, Chunk, Message, Refuse}
-use Rattle.deserializer.specs.Answer.{Listed, message, more, refused}
+use Rattle.deserializer.specs.Answer.{Listed, message, more, refused, used}
 use Rattle.deserializer.specs.Call.{after, end, next, outcome, run, stepOf}
 use Rattle.deserializer.proofs.Cut.{goOn, run-append}
-use Rattle.deserializer.proofs.Progress.{run-uses, used}
+use Rattle.deserializer.proofs.Progress.{run-uses}
 use Rattle.deserializer.proofs.Runs.{next-closed, next-runs, next-short}
 
 -- a decoder that is closed with this number, and otherwise the same

@@ -7,16 +7,10 @@ use lib.ListN.{length}
 use Rattle.deserializer.specs.declared.ChunkDeserializer.{ChunkDeserializer}
 use Rattle.deserializer.specs.declared.reader.Event.{Event}
 use Rattle.deserializer.specs.declared.reader.Event.the-variants.{Go, Chunk, Message, Refuse}
-use Rattle.deserializer.specs.Answer.{Listed, message, more, refused}
+use Rattle.deserializer.specs.Answer.{Listed, more, used}
 use Rattle.deserializer.specs.Call.{Outcome, after, end, next, run, stepOf, writes}
 use Rattle.deserializer.proofs.Cut.{has-run, message-not-more, refused-not-more}
 use Rattle.deserializer.proofs.Runs.{next-runs}
-
--- the bytes that an answer says are used
-abbrev pub used : Listed → ℕ
-used (message type stream time length n) = n
-used (more n) = n
-used (refused number n) = n
 
 -- what a run that begins at n uses of so many bytes
 pub record Uses (n bytes : ℕ) (answer : Listed) : Type 0 where

@@ -11,10 +11,11 @@ use borrow.Author.Tests.{eqb-true, eqb-false, ltb-true, ltb-false}
 use Rattle.deserializer.specs.declared.ChunkDeserializer.{ChunkDeserializer}
 use Rattle.deserializer.specs.declared.reader.Event.{Event}
 use Rattle.deserializer.specs.declared.reader.Event.the-variants.{Go, Chunk, Message, Refuse}
+use Rattle.deserializer.specs.Answer.{used}
 use Rattle.deserializer.specs.Call.{Outcome, after, end, next, run, stepOf, writes}
 use Rattle.deserializer.specs.Machine.{inPayload, pays}
 use Rattle.deserializer.proofs.Cut.{long-writes}
-use Rattle.deserializer.proofs.Progress.{run-uses, used}
+use Rattle.deserializer.proofs.Progress.{run-uses}
 use Rattle.deserializer.proofs.Runs.{next-closed, next-runs, next-short, pays-tells}
 
 -- a byte of the buffer after the bytes from n to `to` were used: as it was, or, within the room, one of them

@@ -14,3 +14,9 @@ abbrev pub answerOf : Answer → Listed
 answerOf (Message type stream time length used) = message type stream (time .value) length used
 answerOf (More used) = more used
 answerOf (Refused number used) = refused number used
+
+-- "each answer tells how many bytes it used"
+abbrev pub used : Listed → ℕ
+used (message type stream time length n) = n
+used (more n) = n
+used (refused number n) = n

@@ -1,30 +1,27 @@
 -- Encoder and decoder agree: between messages the decoder holds what the encoder remembers of every stream whose last message was not droppable.
-use Prim.Native.Nat.{ℕ, _+_, _-_, _*_, _^_, _≤_, _<_, max}
-use mathlib.Core.Path.{_≡_, refl, sym, ap, _∙_}
+use Prim.Native.Nat.{ℕ, _+_, _-_, _*_, _^_, _≤_, _<_}
+use mathlib.Core.Path.{_≡_, refl, sym, _∙_}
 use mathlib.Core.Logic.{_≢_}
 use mathlib.Core.Bool.{Bool, true, false}
-use mathlib.Core.List.{List, _++_}
+use mathlib.Core.List.{List}
 use native.Mathlib.Omega.{arith}
 use lib.Dec.{eqb}
-use lib.ListN.{length, getD, set, length-set, length-replicate, getD-replicate, replicate}
-use lib.Seq.{sets, getD-set-other, getD-set-same}
+use lib.ListN.{length, getD, set, length-set, getD-replicate}
+use lib.Seq.{getD-set-other, getD-set-same}
 use borrow.Author.Tests.{eqb-true, eqb-false, le-ltb, ne-eqb}
 use Rattle.chunk_header.specs.declared.ChunkHeader.{ChunkHeader}
-use Rattle.chunk_header.specs.declared.ChunkHeaderFormat.{ChunkHeaderFormat}
 use Rattle.chunk_header.specs.Header.{nothing}
 use Rattle.serializer.specs.declared.ChunkSerializer.{ChunkSerializer}
 use Rattle.serializer.specs.declared.format.Message.{Message}
 use Rattle.serializer.specs.Header.{header}
 use Rattle.serializer.specs.Message.{chunkStream}
-use Rattle.serializer.specs.Serialize.{fresh, packetOf, previous, remember, rowOf, sizeOf}
+use Rattle.serializer.specs.Serialize.{fresh, previous, remember, rowOf}
 use Rattle.serializer.proofs.Stream.{stream-range}
 use Rattle.deserializer.specs.declared.ChunkDeserializer.{ChunkDeserializer}
 use Rattle.deserializer.specs.declared.reader.Stage.the-variants.{Csid}
-use Rattle.deserializer.specs.Call.{run}
 use Rattle.deserializer.specs.Told.{made, maxRoom}
 use Rattle.deserializer.proofs.Reached.{Reached, made-reached}
 use Rattle.deserializer.proofs.Sound.{clash}
-use Rattle.round_trip.proofs.First.{Goes-on}
 use Rattle.round_trip.proofs.Held.{Held, Spare}
 use Rattle.round_trip.proofs.Packets.{Awake}
 use Rattle.round_trip.proofs.Taking.{At}
@@ -111,10 +108,10 @@ module _ (s : ChunkSerializer) (d : ChunkDeserializer) (a : Agrees s d) (m : Mes
     spare = rw rows (at .moves .spare (a .spare));
     long = length-set (s .«previous_headers») (rowOf m) (header m (previous s m)) ∙ a .long;
     knows = knows-after (d″ .rows) record { held = λ p q. rw (rows, ← p) (at .moves .held); time = time }
-    (λ i l n. record {
-      held = λ p q. rw rows (at .moves .others (i + 2) (rowFor (getD (s .«previous_headers») i nothing)) (λ e. n (omega (arith, e, row-stream))) (λ e. omega (arith, e)) (a .knows i l .held p q));
-      time = a .knows i l .time;
-    });
+        (λ i l n. record {
+          held = λ p q. rw rows (at .moves .others (i + 2) (rowFor (getD (s .«previous_headers») i nothing)) (λ e. n (omega (arith, e, row-stream))) (λ e. omega (arith, e)) (a .knows i l .held p q));
+          time = a .knows i l .time;
+        });
   }
 
 -- a fresh encoder and a fresh decoder agree

@@ -2,19 +2,19 @@
 use Prim.Native.Nat.{ℕ, zero, suc, _+_, _-_, _≤_, _<_, max}
 use mathlib.Core.Path.{_≡_, refl, sym, ap, _∙_}
 use mathlib.Core.Bool.{true}
-use mathlib.Core.List.{List, [], _∷_, _++_, map, append-assoc, append-nil}
+use mathlib.Core.List.{List, [], _∷_, _++_, map, append-assoc}
 use native.Mathlib.Nat.{add-zero}
 use native.Mathlib.Omega.{arith}
 use lib.ListN.{length, take, drop, length-drop, take-append-drop}
-use lib.Seq.{take-nil, drop-nil, drop-at, drop-drop}
+use lib.Seq.{take-nil, drop-at, drop-drop}
 use Rattle.deserializer.specs.declared.ChunkDeserializer.{ChunkDeserializer}
-use Rattle.deserializer.specs.Answer.{Listed, message as found, more, refused as not-read}
+use Rattle.deserializer.specs.Answer.{Listed, message as found, more, refused as not-read, used}
 use Rattle.deserializer.specs.Call.{Outcome, next, outcome, run}
 use Rattle.deserializer.specs.Told.{taken, between}
 use Rattle.deserializer.proofs.Cut.{Kept, goOn, message-not-more, run-append, run-kept, run-shift, shift}
-use Rattle.deserializer.proofs.Progress.{Uses, run-uses, used, uses-a-byte}
+use Rattle.deserializer.proofs.Progress.{run-uses, uses-a-byte}
 use Rattle.deserializer.proofs.Runs.{next-runs}
-use Rattle.round_trip.specs.Demand3.{Note, Packet, Receiver, Tell, after, afterOf, handed, last, log, message, notes, notesOf, offered, offers, tail, tells}
+use Rattle.round_trip.specs.Demand3.{Note, Packet, Receiver, after, afterOf, handed, last, log, message, notes, offered, offers, tail, tells}
 
 -- the note of a packet's message
 abbrev pub note : Packet → Note
@@ -51,7 +51,7 @@ abbrev pub Awaits : List Packet → Receiver → Type 0
 Awaits [] r = Over r
 Awaits (p ∷ ps) r = Coming p (Awaits ps) r
 
-is-ready : (ps : List Packet) (r : Receiver) → Awaits ps r → Ready r
+pub is-ready : (ps : List Packet) (r : Receiver) → Awaits ps r → Ready r
 is-ready [] r a = a .ready
 is-ready (p ∷ ps) r a = a .ready
 
@@ -170,7 +170,7 @@ goes-over r n v =
     in
     record { left = []; notes-are = rw q; awaits = rw q v }
 
-goes : (ps : List Packet) (r : Receiver) (n : ℕ) → Awaits ps r → Goes ps r n
+pub goes : (ps : List Packet) (r : Receiver) (n : ℕ) → Awaits ps r → Goes ps r n
 goes [] r n a = goes-over r n a
 goes (p ∷ ps) r n a = goes-coming p ps r n a (run (take n (r .unread)) (r .decoder) (r .buffer) 0 .answer) refl
 
@@ -202,7 +202,7 @@ none-left (p ∷ ps) r a e =
     message-not-more (sym z)
 
 -- each call goes past what it used
-past-used : (r : Receiver) (n : ℕ) → after r n .unread ≡ drop (used (offered r n .answer)) (r .unread)
+pub past-used : (r : Receiver) (n : ℕ) → after r n .unread ≡ drop (used (offered r n .answer)) (r .unread)
 past-used r n = by-answer (offered r n .answer)
   where
     by-answer : (l : Listed) → afterOf l (offered r n) r .unread ≡ drop (used l) (r .unread)

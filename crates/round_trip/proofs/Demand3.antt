@@ -1,19 +1,17 @@
 -- Demand 3: encoder and decoder agree from the start, each kept packet hands out its message and leaves them agreeing, and the bytes may be cut anywhere.
-use Prim.Native.Nat.{ℕ, zero, suc, _+_, _-_, _^_, _≤_, _<_, max}
+use Prim.Native.Nat.{ℕ, _+_, _-_, _≤_, _<_, max}
 use mathlib.Core.Path.{_≡_, refl, sym, ap, subst, _∙_}
-use mathlib.Core.Bool.{Bool, true, false, cond}
+use mathlib.Core.Bool.{Bool, true, false}
 use mathlib.Core.List.{List, [], _∷_, _++_, map, append-nil}
 use native.Mathlib.Nat.{not-suc-le-zero}
 use native.Mathlib.Omega.{arith}
-use lib.Dec.{eqb, ltb}
 use lib.ListN.{length, take, drop}
 use lib.Seq.{sets, sets-eq, length-sets, take-append-seam, drop-at}
 use borrow.Author.Tests.{eq-eqb, ne-eqb, le-ltb}
-use Rattle.chunk_header.specs.declared.ChunkHeader.{ChunkHeader}
 use Rattle.serializer.specs.declared.ChunkSerializer.{ChunkSerializer}
 use Rattle.serializer.specs.Answer.{refused as not-written}
 use Rattle.serializer.specs.Header.{header}
-use Rattle.serializer.specs.Serialize.{Outcome as Encoded, fresh, maxLength, packetOf, previous, remember, sizeOf}
+use Rattle.serializer.specs.Serialize.{fresh, packetOf, previous, remember}
 use Rattle.deserializer.specs.declared.ChunkDeserializer.{ChunkDeserializer}
 use Rattle.deserializer.specs.declared.reader.Reader.{Reader}
 use Rattle.deserializer.specs.declared.reader.Stage.the-variants.{Csid}
@@ -21,9 +19,9 @@ use Rattle.deserializer.specs.Call.{run}
 use Rattle.deserializer.specs.Told.{between, outcome as telling, sized, taken, told, maxRoom, maxSize, made}
 use Rattle.deserializer.proofs.Reached.{Reached, told-reached}
 use Rattle.deserializer.proofs.Sound.{never}
-use Rattle.round_trip.specs.Demand3.{Call, Demand3, HandsOut, InRange, LeavesOutDroppable, Message, Note, Packet, Ranged, Receiver, Sending, Tell, bytes, encodes, handed, keep, kept, last, log, longest, mayBeLeftOut, message, messageOf, new, nothing, offers, packetsOf, receiver, resize, send, tellOf, tells}
+use Rattle.round_trip.specs.Demand3.{Call, Demand3, HandsOut, InRange, LeavesOutDroppable, Message, Packet, Ranged, Receiver, Sending, Tell, bytes, encodes, keep, kept, last, log, longest, mayBeLeftOut, message, messageOf, receiver, resize, send, tellOf, tells}
 use Rattle.round_trip.proofs.Agreeing.{Agrees, awake, fresh-agree, handed-over, left-out}
-use Rattle.round_trip.proofs.Awaiting.{Awaits, Coming, Comes, Over, comes-by, none-left, note, uses-all}
+use Rattle.round_trip.proofs.Awaiting.{Awaits, Over, comes-by, none-left, note, uses-all}
 use Rattle.round_trip.proofs.Packets.{packet-reads}
 use Rattle.round_trip.proofs.Reading.{Reads}
 use Rattle.round_trip.proofs.Sent.{Accepted, Answers, Taken, accepts, answers, body, encoded, fits, long-as, refuses, sizeAfter, time-less}
@@ -204,9 +202,15 @@ made-room : (room : ℕ) → 1 ≤ room → room ≤ maxRoom → made room .dese
 unfolding made
 made-room room p q = rw (ne-eqb room 0 (omega (arith, p)), le-ltb maxRoom room q)
 
+-- all that is kept is to come to a fresh decoder
+pub kept-awaited : (xs : List Sending) (room : ℕ) (buffer : List ℕ) → InRange xs → LeavesOutDroppable xs → 1 ≤ room → room ≤ maxRoom
+    → longest (kept fresh xs) ≤ room
+    → room ≤ length buffer
+    → Awaits (kept fresh xs) (receiver room buffer (kept fresh xs))
+kept-awaited xs room buffer r l some most fit long =
+    let m = made-room room some most in
+    kept-comes xs r l fresh (made room .deserializer) buffer (fresh-agree room some most) (rw m fit) (rw m long)
+
 pub demand-3 : Demand3
 demand-3 xs room buffer schedule r l some most fit long =
-    let m = made-room room some most in
-    hands-out (kept fresh xs) (receiver room buffer (kept fresh xs)) schedule
-    (kept-comes xs r l fresh (made room .deserializer) buffer (fresh-agree room some most) (rw m fit) (rw m long))
-    refl
+    hands-out (kept fresh xs) (receiver room buffer (kept fresh xs)) schedule (kept-awaited xs room buffer r l some most fit long) refl

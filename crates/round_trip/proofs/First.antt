@@ -1,31 +1,28 @@
 -- The first chunk of a message is taken: where it leaves a number out, the row that the decoder holds says it.
-use Prim.Native.Nat.{ℕ, zero, suc, _+_, _-_, _^_, _≤_, _<_, min}
-use mathlib.Core.Path.{_≡_, refl, sym, ap, _∙_}
-use mathlib.Core.Logic.{_≢_}
+use Prim.Native.Nat.{ℕ, _-_, _^_, _≤_, _<_, min}
+use mathlib.Core.Path.{_≡_, refl, sym, _∙_}
 use mathlib.Core.Bool.{Bool, true, false, cond, not, _&&_, _||_, and-false}
 use mathlib.Core.List.{List}
 use native.Mathlib.Omega.{arith}
-use lib.Dec.{ltb, eqb, lit≤}
+use lib.Dec.{ltb, eqb}
 use lib.ListN.{length}
-use borrow.Author.Tests.{eq-eqb, ne-eqb, eqb-true, eqb-false, le-ltb, lt-ltb, ltb-true, ltb-false}
-use Rattle.time.specs.Clock.{sum, difference}
+use borrow.Author.Tests.{eq-eqb, ne-eqb, eqb-true, le-ltb, lt-ltb, ltb-true}
+use Rattle.time.specs.Clock.{sum}
 use Rattle.time.proofs.Laws.{sum-comm, sum-difference}
 use Rattle.chunk_header.specs.declared.ChunkHeader.{ChunkHeader}
 use Rattle.chunk_header.specs.declared.ChunkHeaderFormat.{ChunkHeaderFormat}
 use Rattle.chunk_header.specs.declared.ChunkHeaderFormat.the-variants.{Full, TimeDeltaWithoutMessageStreamId, TimeDeltaOnly, Empty}
-use Rattle.chunk_header.specs.Layout.{Chunk, absent, present}
+use Rattle.chunk_header.specs.Layout.{Chunk}
 use Rattle.serializer.specs.declared.format.Message.{Message}
-use Rattle.serializer.specs.Header.{delta, format, header, timeField}
+use Rattle.serializer.specs.Header.{delta, format, timeField}
 use Rattle.serializer.specs.Message.{chunkStream}
-use Rattle.serializer.specs.Packet.{chunk, extended, maxField, messageHeader}
-use Rattle.serializer.proofs.Stream.{stream-range}
+use Rattle.serializer.specs.Packet.{chunk, extended, maxField}
 use Rattle.deserializer.specs.declared.ChunkDeserializer.{ChunkDeserializer}
 use Rattle.deserializer.specs.declared.rows.Row.{Row}
-use Rattle.deserializer.specs.Chunk.{ChunkFits, ExtendedFits, HeaderFits, basicRefused, headerRefused, row, stored, left, says, inside}
+use Rattle.deserializer.specs.Chunk.{ChunkFits, basicRefused, headerRefused, stored}
 use Rattle.deserializer.specs.Chunk.{header as headed}
-use Rattle.deserializer.specs.Meaning.{firstRefusal, basicRefusal, laterRefusal, isFull}
+use Rattle.deserializer.specs.Meaning.{firstRefusal, basicRefusal, isFull}
 use Rattle.deserializer.specs.Rows.{find, free}
-use Rattle.deserializer.proofs.RowLaws.{find-tells}
 use Rattle.round_trip.proofs.Held.{Held, Spare, free-some}
 use Rattle.round_trip.proofs.Wire.{Fits, Taken, extended-fits, fields-fit, row-held, row-id, rowFor, says-field}
 

@@ -12,8 +12,7 @@ use Rattle.deserializer.specs.declared.rows.Row.{Row}
 use Rattle.deserializer.specs.Call.{putAt}
 use Rattle.deserializer.specs.Chunk.{placeOf}
 use Rattle.deserializer.specs.Rows.{claimed, find, free, putRow, rowAt}
-use Rattle.deserializer.proofs.RowLaws.{Alone, Distinct, alone-none, alone-there, distinct-put, find-first, find-other, find-put, find-tells, id-other, id-put, length-putRow, row-other, row-put}
-use Rattle.deserializer.proofs.Sound.{found}
+use Rattle.deserializer.proofs.RowLaws.{Distinct, alone-none, alone-there, distinct-put, find-first, find-other, find-put, find-tells, id-other, length-putRow, row-other, row-put}
 
 -- a stream's row is in the table
 pub record Held (rows : List ℕ) (id : ℕ) (row : Row) : Type 0 where

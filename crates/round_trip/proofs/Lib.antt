@@ -5,6 +5,7 @@ pub mod First
 pub mod Held
 pub mod Later
 pub mod Packets
+pub mod Pieces
 pub mod Reading
 pub mod Sent
 pub mod Taking

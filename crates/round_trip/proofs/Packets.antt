@@ -1,7 +1,7 @@
 -- A packet that is kept hands out its message: a first chunk after what is remembered, and the later ones.
 use Prim.Native.Nat.{ℕ, _+_, _-_, _^_, _≤_, _<_, min}
-use mathlib.Core.Path.{_≡_, refl, _∙_}
-use mathlib.Core.Bool.{Bool, true, false, cond}
+use mathlib.Core.Path.{_≡_, refl}
+use mathlib.Core.Bool.{true}
 use mathlib.Core.List.{List, _++_}
 use native.Mathlib.Omega.{arith}
 use lib.ListN.{length, take, drop, length-drop, length-take}
@@ -9,8 +9,7 @@ use lib.Seq.{sets}
 use borrow.Author.Tests.{eq-eqb}
 use Rattle.chunk_header.specs.declared.ChunkHeader.{ChunkHeader}
 use Rattle.chunk_header.specs.declared.ChunkHeaderFormat.{ChunkHeaderFormat}
-use Rattle.chunk_header.specs.declared.ChunkHeaderFormat.the-variants.{Full}
-use Rattle.chunk_header.specs.Layout.{Chunk, chunkBytes}
+use Rattle.chunk_header.specs.Layout.{Chunk}
 use Rattle.serializer.specs.declared.format.Message.{Message}
 use Rattle.serializer.specs.Header.{format, header}
 use Rattle.serializer.specs.Message.{chunkStream}

@@ -1,8 +1,8 @@
 -- A packet is read back: its chunks, one after the other, hand out its message.
 use Prim.Native.Nat.{ℕ, zero, suc, _+_, _-_, _≤_, _<_, min}
-use mathlib.Core.Path.{_≡_, refl, sym, ap, subst, _∙_}
+use mathlib.Core.Path.{_≡_, refl, sym, ap, _∙_}
 use mathlib.Core.Bool.{Bool, true, false}
-use mathlib.Core.List.{List, [], _∷_, _++_, append-assoc, append-nil}
+use mathlib.Core.List.{List, _++_, append-assoc, append-nil}
 use native.Mathlib.Nat.{le-trans, not-suc-le-zero}
 use native.Mathlib.Omega.{arith}
 use lib.Dec.{ltb}
@@ -21,10 +21,10 @@ use Rattle.deserializer.specs.Answer.{message as found}
 use Rattle.deserializer.specs.Call.{Outcome, outcome, run}
 use Rattle.deserializer.specs.Chunk.{got}
 use Rattle.deserializer.proofs.Reached.{Reached}
-use Rattle.round_trip.proofs.Held.{Moves, Spare, moves-then}
+use Rattle.round_trip.proofs.Held.{Spare, moves-then}
 use Rattle.round_trip.proofs.Later.{later-chunk}
 use Rattle.round_trip.proofs.Taking.{At, Last, Onward, chunk-ends, chunk-goes-on}
-use Rattle.round_trip.proofs.Wire.{Fits, Taken, rowFor}
+use Rattle.round_trip.proofs.Wire.{Fits, Taken}
 
 -- an outcome that hands out the message of a header, after so many bytes, and leaves a decoder between messages
 pub record Reads (d : ChunkDeserializer) (h : ChunkHeader) (used : ℕ) (buffer : List ℕ) (o : Outcome) : Type 0 where
@@ -130,8 +130,8 @@ module _ (h : ChunkHeader) (k : Fits h) (forced : Bool) (time : forced ≡ true 
       → n + length xs ≡ h .«message_length»
       → 0 < length xs
       → (size < length xs → (d″ : ChunkDeserializer) (buffer′ : List ℕ) (used′ : ℕ) → At d′ h (h .«chunk_stream_id») (n + length (take size xs)) d″
-          → Reads d″ h (used′ + length (later g h size (drop size xs))) (sets buffer′ (n + length (take size xs)) (drop size xs))
-          (run (later g h size (drop size xs) ++ rest) d″ buffer′ used′))
+      → Reads d″ h (used′ + length (later g h size (drop size xs))) (sets buffer′ (n + length (take size xs)) (drop size xs))
+      (run (later g h size (drop size xs) ++ rest) d″ buffer′ used′))
       → Reads d′ h (used + length (later g h size xs)) (sets buffer n xs) (run (later g h size xs ++ rest) d′ buffer used)
   next-reads d d′ n xs buffer used a e s l p others =
       let c = chunk g h (take size xs) in
@@ -161,4 +161,4 @@ module _ (h : ChunkHeader) (k : Fits h) (forced : Bool) (time : forced ≡ true 
   later-reads (suc b) d d′ n xs buffer used a e s l p q =
       next-reads d d′ n xs buffer used a e s l p
       (λ less d″ buffer′ used′ a′.
-        later-reads b d′ d″ (n + length (take size xs)) (drop size xs) buffer′ used′ a′ (a .size ∙ e) (a .moves .spare s) (left-adds n xs l less) (left-some xs less) (left-less xs b q))
+      later-reads b d′ d″ (n + length (take size xs)) (drop size xs) buffer′ used′ a′ (a .size ∙ e) (a .moves .spare s) (left-adds n xs l less) (left-some xs less) (left-less xs b q))

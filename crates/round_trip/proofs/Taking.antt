@@ -1,14 +1,13 @@
 -- What a chunk that is taken does to the decoder: its row is held, and its message goes on or is handed out.
-use Prim.Native.Nat.{ℕ, _+_, _-_, _≤_, _<_, min}
-use mathlib.Core.Path.{_≡_, refl, sym, ap, _∙_}
-use mathlib.Core.Logic.{_≢_}
-use mathlib.Core.Bool.{Bool, true, false, cond}
-use mathlib.Core.List.{List, [], _∷_, _++_}
+use Prim.Native.Nat.{ℕ, _+_, _-_, _≤_, _<_}
+use mathlib.Core.Path.{_≡_, refl, ap, _∙_}
+use mathlib.Core.Bool.{true, false}
+use mathlib.Core.List.{List, [], _++_}
 use native.Mathlib.Omega.{arith}
-use lib.Dec.{ltb, eqb}
+use lib.Dec.{ltb}
 use lib.ListN.{length}
 use lib.Seq.{sets}
-use borrow.Author.Tests.{le-ltb, lt-ltb, ltb-true, ltb-false}
+use borrow.Author.Tests.{le-ltb, lt-ltb}
 use Rattle.chunk_header.specs.declared.ChunkHeader.{ChunkHeader}
 use Rattle.chunk_header.specs.Layout.{Chunk, chunkBytes}
 use Rattle.deserializer.specs.declared.ChunkDeserializer.{ChunkDeserializer}
@@ -17,15 +16,13 @@ use Rattle.deserializer.specs.declared.reader.Event.the-variants.{Message}
 use Rattle.deserializer.specs.declared.reader.Stage.the-variants.{Csid}
 use Rattle.deserializer.specs.declared.rows.Row.{Row}
 use Rattle.deserializer.specs.Answer.{message as found}
-use Rattle.deserializer.specs.Call.{Outcome, after, end, outcome, putAt, run}
+use Rattle.deserializer.specs.Call.{after, end, outcome, putAt, run}
 use Rattle.deserializer.specs.Chunk.{got, header, placeOf, stored}
-use Rattle.deserializer.specs.Rows.{claimed, find, free, putRow}
 use Rattle.deserializer.proofs.Accepts.{accepts}
 use Rattle.deserializer.proofs.Reached.{Reached, run-reached}
 use Rattle.deserializer.proofs.ReadsBack.{claiming, finished}
-use Rattle.deserializer.proofs.RowLaws.{alone-none, distinct-put, length-putRow}
 use Rattle.deserializer.proofs.Runs.{then}
-use Rattle.round_trip.proofs.Held.{Moves, Spare, moves-then, put-moves}
+use Rattle.round_trip.proofs.Held.{Moves, Spare, put-moves}
 use Rattle.round_trip.proofs.Wire.{Fits, Taken, rowFor}
 
 -- a decoder between chunks, some chunks of a message after another one: what the message has so far, its row, and all else as it was

@@ -1,32 +1,22 @@
 -- What the encoder remembers of a stream, as the decoder's row of it, and the time field on the wire.
-use Prim.Native.Nat.{ℕ, zero, suc, _+_, _-_, _^_, _≤_, _<_, min}
-use mathlib.Core.Path.{_≡_, refl, sym, ap, _∙_}
-use mathlib.Core.Logic.{_≢_}
-use mathlib.Core.Bool.{Bool, true, false, cond, not, _&&_, _||_, and-false}
-use mathlib.Core.List.{List}
+use Prim.Native.Nat.{ℕ, _-_, _^_, _≤_, _<_, min}
+use mathlib.Core.Path.{_≡_, refl}
+use mathlib.Core.Bool.{Bool, true, false, cond}
 use native.Mathlib.Omega.{arith}
-use lib.Dec.{ltb, eqb, lit≤}
+use lib.Dec.{ltb}
 use lib.ListN.{length}
-use borrow.Author.Tests.{eq-eqb, ne-eqb, eqb-true, eqb-false, le-ltb, lt-ltb, ltb-true, ltb-false}
-use Rattle.time.specs.Clock.{sum, difference}
-use Rattle.time.proofs.Laws.{sum-comm, sum-difference}
+use borrow.Author.Tests.{lt-ltb, ltb-true, ltb-false}
 use Rattle.chunk_header.specs.declared.ChunkHeader.{ChunkHeader}
 use Rattle.chunk_header.specs.declared.ChunkHeaderFormat.{ChunkHeaderFormat}
 use Rattle.chunk_header.specs.declared.ChunkHeaderFormat.the-variants.{Full, TimeDeltaWithoutMessageStreamId, TimeDeltaOnly, Empty}
 use Rattle.chunk_header.specs.Layout.{Chunk, absent, present}
-use Rattle.serializer.specs.declared.format.Message.{Message}
-use Rattle.serializer.specs.Header.{delta, format, header, timeField}
-use Rattle.serializer.specs.Message.{chunkStream}
-use Rattle.serializer.specs.Packet.{chunk, extended, maxField, messageHeader}
-use Rattle.serializer.proofs.Stream.{stream-range}
+use Rattle.serializer.specs.Packet.{extended, maxField, messageHeader}
 use Rattle.deserializer.specs.declared.ChunkDeserializer.{ChunkDeserializer}
 use Rattle.deserializer.specs.declared.rows.Row.{Row}
-use Rattle.deserializer.specs.Chunk.{ChunkFits, ExtendedFits, HeaderFits, basicRefused, headerRefused, row, stored, left, says, inside}
-use Rattle.deserializer.specs.Chunk.{header as headed}
-use Rattle.deserializer.specs.Meaning.{firstRefusal, basicRefusal, laterRefusal, isFull}
-use Rattle.deserializer.specs.Rows.{find, free}
+use Rattle.deserializer.specs.Chunk.{ChunkFits, ExtendedFits, HeaderFits, basicRefused, headerRefused, row, stored, says}
+use Rattle.deserializer.specs.Rows.{find}
 use Rattle.deserializer.proofs.RowLaws.{find-tells}
-use Rattle.round_trip.proofs.Held.{Held, Spare, free-some}
+use Rattle.round_trip.proofs.Held.{Held}
 
 -- the row that the decoder is to hold for what the encoder remembers: its time field is the wire's
 abbrev pub rowFor : ChunkHeader → Row
