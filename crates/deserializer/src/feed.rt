@@ -1,7 +1,9 @@
 // The loop of a call, over a decoder without its rows and rows lent to it.
 ghost use mathlib.Core.Path.{_≡_};
-ghost use Rattle.deserializer.specs.Answer.{answerOf};
-ghost use Rattle.deserializer.specs.Call.{next, outcome, read};
+ghost use Prim.Native.Nat.{_≤_};
+ghost use lib.ListN.{length};
+ghost use Rattle.deserializer.specs.Answer.{answerOf, refused as Answer·refused};
+ghost use Rattle.deserializer.specs.Call.{next, outcome, read, run};
 ghost use Rattle.deserializer.specs.Turn.{whole};
 use crate::call::Answer;
 use crate::call::Core;
@@ -36,27 +38,21 @@ fn wide(x: u32) -> usize
     x as usize
 }
 
-pub fn feed(core: Core, rows: &mut [u32; 384], input: &[u8], payload: &mut [u8]) -> Fed
-    ensures { λ r. ⌜ outcome (answerOf (r .answer)) (whole (r .core) (now (rows .exit))) (now (payload .exit)) ≡ next (whole core (now (rows .entry))) (now (input .entry)) (now (payload .entry)) ⌝ }
+fn refused(number: u8, used: usize) -> Answer
+    ensures { λ r. ⌜ answerOf r ≡ Answer·refused number used ⌝ }
+{
+    Answer::Refused {
+        number: number,
+        used: used,
+    }
+}
+
+// Turn after turn, up to a message, a refusal or the end of the input.
+fn turns(core: Core, rows: &mut [u32; 384], input: &[u8], payload: &mut [u8]) -> Fed
+    requires { ⌜ core .room ≤ length (now payload) ⌝ }
+    ensures { λ r. ⌜ outcome (answerOf (r .answer)) (whole (r .core) (now (rows .exit))) (now (payload .exit)) ≡ run (now (input .entry)) (whole core (now (rows .entry))) (now (payload .entry)) 0 ⌝ }
 {
     let mut now = core;
-    let closed = core.closed;
-    if closed != 0 {
-        return Fed {
-            core: now,
-            answer: Answer::Refused {
-                number: closed,
-                used: 0,
-            },
-        };
-    }
-    let room = wide(core.room);
-    if payload.len() < room {
-        return Fed {
-            core: now,
-            answer: Answer::Refused { number: 7, used: 0 },
-        };
-    }
     let mut at = 0;
     while at < input.len() {
         let moved = turn(now, rows, input, at, payload);
@@ -77,10 +73,7 @@ pub fn feed(core: Core, rows: &mut [u32; 384], input: &[u8], payload: &mut [u8])
             Event::Refuse(number) => {
                 return Fed {
                     core: next,
-                    answer: Answer::Refused {
-                        number: number,
-                        used: at,
-                    },
+                    answer: refused(number, at),
                 };
             }
         }
@@ -89,4 +82,25 @@ pub fn feed(core: Core, rows: &mut [u32; 384], input: &[u8], payload: &mut [u8])
         core: now,
         answer: Answer::More { used: at },
     }
+}
+
+// A closed decoder, or too short a buffer, or the bytes of the input.
+pub fn feed(core: Core, rows: &mut [u32; 384], input: &[u8], payload: &mut [u8]) -> Fed
+    ensures { λ r. ⌜ outcome (answerOf (r .answer)) (whole (r .core) (now (rows .exit))) (now (payload .exit)) ≡ next (whole core (now (rows .entry))) (now (input .entry)) (now (payload .entry)) ⌝ }
+{
+    let closed = core.closed;
+    if closed != 0 {
+        return Fed {
+            core: core,
+            answer: refused(closed, 0),
+        };
+    }
+    let room = wide(core.room);
+    if payload.len() < room {
+        return Fed {
+            core: core,
+            answer: refused(7, 0),
+        };
+    }
+    turns(core, rows, input, payload)
 }

@@ -113,7 +113,7 @@ fn extended_field(
     go(at(reader, Stage::ExtendedTimestamp(number, lacks - 1)))
 }
 
-// A byte of a payload never comes here: it is copied with those beside it.
+// By the stage, where n is what was gathered of a field. A byte of a payload never comes here: it is copied with those beside it.
 pub fn step(room: u32, size: u32, rows: &[u32; 384], reader: Reader, byte: u8) -> Stepped
     ensures { λ r. ⌜ r ≡ stepped (reader .stage) room size (now (rows .entry)) reader byte ⌝ }
 {
@@ -136,39 +136,11 @@ pub fn step(room: u32, size: u32, rows: &[u32; 384], reader: Reader, byte: u8) -
             &[first, second, byte],
             Stage::CsidThird(first, second),
         ),
-        Stage::InitialTimestamp(before, lacks) => timestamp_field(
-            room,
-            size,
-            reader,
-            before,
-            lacks,
-            byte,
-        ),
-        Stage::MessageLength(before, lacks) => length_field(
-            room,
-            size,
-            reader,
-            before,
-            lacks,
-            byte,
-        ),
+        Stage::InitialTimestamp(n, lacks) => timestamp_field(room, size, reader, n, lacks, byte),
+        Stage::MessageLength(n, lacks) => length_field(room, size, reader, n, lacks, byte),
         Stage::MessageTypeId => type_field(room, size, reader, byte),
-        Stage::MessageStreamId(before, lacks) => stream_field(
-            room,
-            size,
-            reader,
-            before,
-            lacks,
-            byte,
-        ),
-        Stage::ExtendedTimestamp(before, lacks) => extended_field(
-            room,
-            size,
-            reader,
-            before,
-            lacks,
-            byte,
-        ),
+        Stage::MessageStreamId(n, lacks) => stream_field(room, size, reader, n, lacks, byte),
+        Stage::ExtendedTimestamp(n, lacks) => extended_field(room, size, reader, n, lacks, byte),
         Stage::MessagePayload => refuse(reader, 255),
     }
 }

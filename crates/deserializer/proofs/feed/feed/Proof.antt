@@ -1,165 +1,49 @@
--- The invariant says nothing of the past: the rest of the run is the whole call.
-use Prim.Native.Nat.{ℕ, _-_, _≤_}
-use mathlib.Core.Path.{_≡_, refl, sym, ap, _∙_}
-use mathlib.Core.List.{List}
+-- What is answered at once, or the run.
+use Prim.Native.Nat.{_≤_}
+use mathlib.Core.Path.{_≡_, sym, ap, _∙_}
 use native.Mathlib.Omega.{arith}
 use borrow.Author.Needs.{needs}
-use lib.ListN.{length, drop}
-use Rattle.deserializer.specs.declared.reader.Event.{Event}
-use Rattle.deserializer.specs.declared.reader.Event.the-variants.{Go, Chunk, Message, Refuse}
+use lib.ListN.{length}
 use Rattle.deserializer.specs.Answer.{Listed}
-use Rattle.deserializer.specs.Call.{next, outcome, run}
-use Rattle.deserializer.specs.Turn.{follows, whole}
-use Rattle.deserializer.proofs.Runs.{next-closed, next-short, next-runs, run-end}
+use Rattle.deserializer.specs.Call.{outcome}
+use Rattle.deserializer.specs.Turn.{whole}
+use Rattle.deserializer.proofs.Runs.{next-closed, next-short, next-runs}
 use Rattle.deserializer.proofs.feed.feed.Statement.{statement}
 use Rattle.deserializer.proofs.feed.feed.Tie as tie
 
-abbrev Inv-loop : tie.InvT-loop
-Inv-loop rows₀ input payload₀ now₀ closed room at₀ rows payload now at =
-    (at ≤ length input)
-    × (length payload ≡ length payload₀)
-    × (now .room ≤ length payload₀)
-    × (next (whole now₀ rows₀) input payload₀ ≡ run (drop at input) (whole now rows) payload at)
+refused-requires : tie.Need-refused-requires
+refused-requires c κs = search needs
 
-abbrev μ-loop : tie.MeasureT-loop
-μ-loop rows₀ input payload₀ now₀ closed room at₀ rows payload now at = length input - at
-
-abbrev at-loop : tie.After-turn Inv-loop μ-loop → tie.At-loop Inv-loop μ-loop
-at-loop t = t .before .before .before .before
-
-abbrev start : tie.At-loop Inv-loop μ-loop → tie.Start Inv-loop μ-loop
-start l = l .before .before .before .before .before .before
-
--- what the turn left in the rows and in the payload
-abbrev rows-left : tie.After-turn Inv-loop μ-loop → List ℕ
-rows-left t = t .turn .last .1 .0
-
-abbrev left : tie.After-turn Inv-loop μ-loop → List ℕ
-left t = t .turn .last .1 .1 .1 .1 .0
-
--- the whole call is what follows the turn, whose event is e
-turned : (t : tie.After-turn Inv-loop μ-loop) (e : Event) → t .turn .result .event ≡ e
-    → let a = start (at-loop t) .args in
-    next (whole (a .core) (a .rows .now)) (a .input .now) (a .payload .now)
-    ≡ follows e (whole (t .turn .result .core) (rows-left t)) (left t) (t .turn .result .at) (drop (t .turn .result .at) (a .input .now))
-turned t e k =
-    at-loop t .loop .inv .3
-    ∙ t .turn .ensures .runs
-    ∙ ap (λ (x : Event). follows x (whole (t .turn .result .core) (rows-left t)) (left t) (t .turn .result .at) (drop (t .turn .result .at) (start (at-loop t) .args .input .now))) k
-
--- the invariant after a turn that only goes on
-again : (t : tie.After-turn Inv-loop μ-loop)
-    → let a = start (at-loop t) .args in
-    next (whole (a .core) (a .rows .now)) (a .input .now) (a .payload .now) ≡ run (drop (t .turn .result .at) (a .input .now)) (whole (t .turn .result .core) (rows-left t)) (left t) (t .turn .result .at)
-    → Inv-loop (a .rows .now) (a .input .now) (a .payload .now) (a .core) (a .core .closed) (at-loop t .before .before .wide .result) 0 (rows-left t) (left t) (t .turn .result .core) (t .turn .result .at)
-again t e = (
-  t .turn .ensures .within,
-  t .turn .kept .1 .1 .1 .1 .0 ∙ at-loop t .loop .inv .1,
-  omega (arith, t .turn .ensures .room, at-loop t .loop .inv .2),
-  e,
-)
-
-returns : tie.Need-returns Inv-loop μ-loop
+returns : tie.Need-returns
 returns c =
-    let a = c .before .before .before .args in
-    sym (next-closed (whole (a .core) (a .rows .now)) (a .input .now) (a .payload .now) (c .if1 .taken))
+    let a = c .before .before .before .before .args in
+    ap (λ (x : Listed). outcome x (whole (a .core) (a .rows .now)) (a .payload .now)) (c .refused .ensures)
+    ∙ sym (next-closed (whole (a .core) (a .rows .now)) (a .input .now) (a .payload .now) (c .before .if1 .taken))
 
-wide-requires : tie.Need-wide-requires Inv-loop μ-loop
-wide-requires c κs = tt
+wide-requires : tie.Need-wide-requires
+wide-requires c κs = search needs
 
-returns-2 : tie.Need-returns-2 Inv-loop μ-loop
+refused-requires-2 : tie.Need-refused-requires-2
+refused-requires-2 c κs = search needs
+
+returns-2 : tie.Need-returns-2
 returns-2 c =
-    let a = c .before .before .before .before .before .args in
-    sym (next-short (whole (a .core) (a .rows .now)) (a .input .now) (a .payload .now) (c .before .before .if1 .left) (omega (arith, c .before .wide .ensures)))
+    let a = c .before .before .before .before .before .before .args in
+    ap (λ (x : Listed). outcome x (whole (a .core) (a .rows .now)) (a .payload .now)) (c .refused2 .ensures)
+    ∙ sym (next-short (whole (a .core) (a .rows .now)) (a .input .now) (a .payload .now) (c .before .before .before .if1 .left) (omega (arith, c .before .before .wide .ensures)))
 
-loop-holds : tie.Need-loop-holds Inv-loop μ-loop
-loop-holds c =
-    let a = c .before .before .before .before .before .args in
-    let room : a .core .room ≤ length (a .payload .now) = omega (arith, c .before .wide .ensures) in
-    (omega arith, refl, room, next-runs (whole (a .core) (a .rows .now)) (a .input .now) (a .payload .now) (c .before .before .if1 .left) room)
+turns-requires : tie.Need-turns-requires
+turns-requires c κs = omega (arith, c .before .before .before .wide .ensures)
 
-turn-requires : tie.Need-turn-requires Inv-loop μ-loop
-turn-requires c κs = (omega (arith, c .before .before .before .loop .inv), omega arith)
+same-length : tie.Need-same-length
+same-length c = search needs
 
-enum-told : tie.Need-enum-told Inv-loop μ-loop
-enum-told c = search needs
-
-loop-less : tie.Need-loop-less Inv-loop μ-loop
-loop-less c = omega (arith, c .before .before .before .before .before .turn .ensures .on, c .before .before .before .before .before .turn .ensures .within)
-
-loop-again : tie.Need-loop-again Inv-loop μ-loop
-loop-again c = again (c .before .before .before .before .before) (turned (c .before .before .before .before .before) Go (c .enum-told .given .1))
-
-enum-told-2 : tie.Need-enum-told-2 Inv-loop μ-loop
-enum-told-2 c = search needs
-
-loop-less-2 : tie.Need-loop-less-2 Inv-loop μ-loop
-loop-less-2 c = omega (arith, c .before .before .before .before .before .turn .ensures .on, c .before .before .before .before .before .turn .ensures .within)
-
-loop-again-2 : tie.Need-loop-again-2 Inv-loop μ-loop
-loop-again-2 c = again (c .before .before .before .before .before) (turned (c .before .before .before .before .before) Chunk (c .enum-told2 .given .1))
-
-enum-told-3 : tie.Need-enum-told-3 Inv-loop μ-loop
-enum-told-3 c = search needs
-
-handed-requires : tie.Need-handed-requires Inv-loop μ-loop
-handed-requires c κs = tt
-
-same-length : tie.Need-same-length Inv-loop μ-loop
-same-length c =
-    let t = c .before .before .before .before .before .before .before in
-    t .turn .kept .1 .1 .1 .1 .0 ∙ at-loop t .loop .inv .1
-
-returns-3 : tie.Need-returns-3 Inv-loop μ-loop
+returns-3 : tie.Need-returns-3
 returns-3 c =
-    let t = c .before .before .before .before .before .before .before in
-    ap (λ (x : Listed). outcome x (whole (t .turn .result .core) (rows-left t)) (left t)) (c .handed .ensures)
-    ∙ sym (turned t Message (c .before .before .enum-told3 .given .1))
-
-enum-known-event : tie.Need-enum-known-event Inv-loop μ-loop
-enum-known-event c = search needs
-
-same-length-2 : tie.Need-same-length-2 Inv-loop μ-loop
-same-length-2 c =
-    let t = c .before .before .before .before .before .before in
-    t .turn .kept .1 .1 .1 .1 .0 ∙ at-loop t .loop .inv .1
-
-returns-4 : tie.Need-returns-4 Inv-loop μ-loop
-returns-4 c =
-    let t = c .before .before .before .before .before .before in
-    sym (turned t (Refuse (c .before .event .given .0 .0)) (c .before .event .given .1))
-
-same-length-3 : tie.Need-same-length-3 Inv-loop μ-loop
-same-length-3 c = c .before .loop .inv .1
-
-returns-5 : tie.Need-returns-5 Inv-loop μ-loop
-returns-5 c =
-    let l = c .before in
-    sym (l .loop .inv .3 ∙ run-end (whole (l .loop .now) (l .loop .rows)) (start l .args .input .now) (l .loop .payload) (l .loop .at) (l .loop .at) (c .loop-test .left))
+    let a = c .before .before .before .before .before .before .before .before .before .before .args in
+    let room : a .core .room ≤ length (a .payload .now) = omega (arith, c .before .before .before .before .before .before .wide .ensures) in
+    c .before .before .turns .ensures
+    ∙ sym (next-runs (whole (a .core) (a .rows .now)) (a .input .now) (a .payload .now) (c .before .before .before .before .before .before .before .if1 .left) room)
 
 pub feed-spec : {M : Type 1} → statement M
-feed-spec =
-    tie.close
-    (tie.spec
-    Inv-loop
-    μ-loop
-    returns
-    wide-requires
-    returns-2
-    loop-holds
-    turn-requires
-    enum-told
-    loop-less
-    loop-again
-    enum-told-2
-    loop-less-2
-    loop-again-2
-    enum-told-3
-    handed-requires
-    same-length
-    returns-3
-    enum-known-event
-    same-length-2
-    returns-4
-    same-length-3
-    returns-5)
+feed-spec = tie.close (tie.spec refused-requires returns wide-requires refused-requires-2 returns-2 turns-requires same-length returns-3)
