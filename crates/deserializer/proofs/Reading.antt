@@ -20,7 +20,8 @@ use Rattle.deserializer.specs.declared.reader.Unfinished.{Unfinished}
 use Rattle.deserializer.specs.declared.rows.Row.{Row}
 use Rattle.deserializer.specs.Call.{Outcome, after, run}
 use Rattle.deserializer.specs.Chunk.{ExtendedFits, HeaderFits, carried, formatFor, says}
-use Rattle.deserializer.specs.Machine.{at, current, extendedField, extendedNext, fielded, go, headed, lengthed, lengthField, lengthNext, reader, streamed, streamField, streamNext, swapped, timestampField, timestampNext, typed, typeField, typeNext, whole}
+use Rattle.deserializer.specs.Machine.{at, current, extendedField, extendedNext, go, headed, lengthField, lengthNext, reader, streamField, streamNext, swapped, timestampField, timestampNext, typeField, typeNext, whole}
+use Rattle.deserializer.specs.Rows.{fielded, lengthed, streamed, typed}
 use Rattle.deserializer.specs.Meaning.{maxField}
 use Rattle.deserializer.proofs.Fields.{Reaches, field}
 use Rattle.deserializer.proofs.Runs.{holding, run-header, then}

@@ -19,7 +19,7 @@ use Rattle.deserializer.specs.declared.reader.Stepped.{Stepped}
 use Rattle.deserializer.specs.declared.reader.Unfinished.{Unfinished}
 use Rattle.deserializer.specs.declared.rows.Row.{Row}
 use Rattle.deserializer.specs.Meaning.{maxField, firstTime, basicRefusal, laterRefusal, firstRefusal}
-use Rattle.deserializer.specs.Rows.{claimed, find, free, rowAt}
+use Rattle.deserializer.specs.Rows.{claimed, fielded, find, free, lengthed, rowAt, streamed, timed, typed}
 
 -- the parts of a reader put together
 abbrev pub reader : Stage → Current → Unfinished → Reader
@@ -30,22 +30,6 @@ current format place before header left = record { format = format; place = plac
 
 abbrev pub unfinished : ℕ → ℕ → Unfinished
 unfinished id got = record { id = id; got = got }
-
--- a row with one of its numbers replaced
-abbrev pub timed : Row → ℕ → Row
-timed h x = record { id = h .id; timestamp = record { value = x }; «timestamp_field» = h .«timestamp_field»; «message_length» = h .«message_length»; «message_type_id» = h .«message_type_id»; «message_stream_id» = h .«message_stream_id» }
-
-abbrev pub fielded : Row → ℕ → Row
-fielded h x = record { id = h .id; timestamp = h .timestamp; «timestamp_field» = x; «message_length» = h .«message_length»; «message_type_id» = h .«message_type_id»; «message_stream_id» = h .«message_stream_id» }
-
-abbrev pub lengthed : Row → ℕ → Row
-lengthed h x = record { id = h .id; timestamp = h .timestamp; «timestamp_field» = h .«timestamp_field»; «message_length» = x; «message_type_id» = h .«message_type_id»; «message_stream_id» = h .«message_stream_id» }
-
-abbrev pub typed : Row → ℕ → Row
-typed h x = record { id = h .id; timestamp = h .timestamp; «timestamp_field» = h .«timestamp_field»; «message_length» = h .«message_length»; «message_type_id» = x; «message_stream_id» = h .«message_stream_id» }
-
-abbrev pub streamed : Row → ℕ → Row
-streamed h x = record { id = h .id; timestamp = h .timestamp; «timestamp_field» = h .«timestamp_field»; «message_length» = h .«message_length»; «message_type_id» = h .«message_type_id»; «message_stream_id» = x }
 
 -- the reader at another stage; with another header
 abbrev pub at : Reader → Stage → Reader

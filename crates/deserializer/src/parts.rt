@@ -1,6 +1,7 @@
 // Readers, rows and steps with one of their parts replaced.
 ghost use mathlib.Core.Path.{_≡_};
-ghost use Rattle.deserializer.specs.Machine.{at as Machine·at, ended as Machine·ended, fielded as Machine·fielded, go as Machine·go, headed as Machine·headed, lengthed as Machine·lengthed, paused as Machine·paused, refuse as Machine·refuse, streamed as Machine·streamed, timed as Machine·timed, typed as Machine·typed};
+ghost use Rattle.deserializer.specs.Machine.{at as Machine·at, ended as Machine·ended, go as Machine·go, headed as Machine·headed, paused as Machine·paused, refuse as Machine·refuse};
+ghost use Rattle.deserializer.specs.Rows.{fielded as Rows·fielded, lengthed as Rows·lengthed, streamed as Rows·streamed, timed as Rows·timed, typed as Rows·typed};
 use crate::reader::Current;
 use crate::reader::Event;
 use crate::reader::Reader;
@@ -12,7 +13,7 @@ use crate::rows::Row;
 use time::RtmpTimestamp;
 
 pub fn timed(row: Row, timestamp: RtmpTimestamp) -> Row
-    ensures { λ r. ⌜ r ≡ Machine·timed row (timestamp .value) ⌝ }
+    ensures { λ r. ⌜ r ≡ Rows·timed row (timestamp .value) ⌝ }
 {
     Row {
         id: row.id,
@@ -25,7 +26,7 @@ pub fn timed(row: Row, timestamp: RtmpTimestamp) -> Row
 }
 
 pub fn fielded(row: Row, timestamp_field: u32) -> Row
-    ensures { λ r. ⌜ r ≡ Machine·fielded row «timestamp_field» ⌝ }
+    ensures { λ r. ⌜ r ≡ Rows·fielded row «timestamp_field» ⌝ }
 {
     let mut next = row;
     next.timestamp_field = timestamp_field;
@@ -33,7 +34,7 @@ pub fn fielded(row: Row, timestamp_field: u32) -> Row
 }
 
 pub fn lengthed(row: Row, message_length: u32) -> Row
-    ensures { λ r. ⌜ r ≡ Machine·lengthed row «message_length» ⌝ }
+    ensures { λ r. ⌜ r ≡ Rows·lengthed row «message_length» ⌝ }
 {
     let mut next = row;
     next.message_length = message_length;
@@ -41,7 +42,7 @@ pub fn lengthed(row: Row, message_length: u32) -> Row
 }
 
 pub fn typed(row: Row, message_type_id: u8) -> Row
-    ensures { λ r. ⌜ r ≡ Machine·typed row «message_type_id» ⌝ }
+    ensures { λ r. ⌜ r ≡ Rows·typed row «message_type_id» ⌝ }
 {
     let mut next = row;
     next.message_type_id = message_type_id;
@@ -49,7 +50,7 @@ pub fn typed(row: Row, message_type_id: u8) -> Row
 }
 
 pub fn streamed(row: Row, message_stream_id: u32) -> Row
-    ensures { λ r. ⌜ r ≡ Machine·streamed row «message_stream_id» ⌝ }
+    ensures { λ r. ⌜ r ≡ Rows·streamed row «message_stream_id» ⌝ }
 {
     let mut next = row;
     next.message_stream_id = message_stream_id;
