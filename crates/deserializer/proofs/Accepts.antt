@@ -28,7 +28,7 @@ use Rattle.deserializer.proofs.Reached.{Reached}
 use Rattle.deserializer.proofs.ReadsBack.{Rowed, Within, basicOf, claiming, extendedOf, finished, headOf, reads-back, refused-basic, refused-header}
 use Rattle.deserializer.proofs.Runs.{then}
 
--- a refusal and all that it leaves: the number, the bytes used, a decoder closed with that number, its rows, and the buffer
+-- a refusal: the number, the bytes used, a decoder closed with that number, its rows, and the buffer; `Closing` says that the rest of the decoder stays
 pub record Refuses (o : Outcome) (k used : ℕ) (rows payload : List ℕ) : Type 0 where
   pub answer : o .answer ≡ refused k used
   pub closed : o .deserializer .closed ≡ k

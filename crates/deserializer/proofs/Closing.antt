@@ -12,7 +12,7 @@ use Rattle.deserializer.specs.declared.reader.Event.{Event}
 use Rattle.deserializer.specs.declared.reader.Event.the-variants.{Go, Chunk, Message, Refuse}
 use Rattle.deserializer.specs.Answer.{Listed, message, more, refused, used}
 use Rattle.deserializer.specs.Call.{after, end, next, outcome, run, stepOf}
-use Rattle.deserializer.proofs.Cut.{goOn, run-append}
+use Rattle.deserializer.proofs.Cut.{run-append}
 use Rattle.deserializer.proofs.Progress.{run-uses}
 use Rattle.deserializer.proofs.Runs.{next-closed, next-runs, next-short}
 

@@ -20,7 +20,7 @@ use Rattle.deserializer.specs.declared.reader.Unfinished.{Unfinished}
 use Rattle.deserializer.specs.declared.rows.Row.{Row}
 use Rattle.deserializer.specs.Call.{Outcome, after, run}
 use Rattle.deserializer.specs.Chunk.{ExtendedFits, HeaderFits, carried, formatFor, says}
-use Rattle.deserializer.specs.Machine.{at, current, extendedField, extendedNext, go, headed, lengthField, lengthNext, reader, streamField, streamNext, swapped, timestampField, timestampNext, typeField, typeNext, whole}
+use Rattle.deserializer.specs.Machine.{at, current, extendedField, extendedNext, headed, lengthField, lengthNext, reader, streamField, streamNext, swapped, timestampField, timestampNext, typeField, typeNext, whole}
 use Rattle.deserializer.specs.Rows.{fielded, lengthed, streamed, typed}
 use Rattle.deserializer.specs.Meaning.{maxField}
 use Rattle.deserializer.proofs.Fields.{Reaches, field}
