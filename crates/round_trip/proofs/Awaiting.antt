@@ -14,7 +14,7 @@ use Rattle.deserializer.specs.Told.{taken, between}
 use Rattle.deserializer.proofs.Cut.{Kept, goOn, message-not-more, run-append, run-kept, run-shift, shift}
 use Rattle.deserializer.proofs.Progress.{run-uses, uses-a-byte}
 use Rattle.deserializer.proofs.Runs.{next-runs}
-use Rattle.round_trip.specs.Demand3.{Note, Packet, Receiver, after, afterOf, handed, last, log, message, notes, offered, offers, tail, tells}
+use Rattle.round_trip.specs.Demand3.{Note, Packet, Receiver, after, afterOf, handed, last, log, message, notes, offered, offers, tail, tellFirst}
 
 -- the note of a packet's message
 abbrev pub note : Packet → Note
@@ -33,7 +33,7 @@ pub record Over (r : Receiver) : Type 0 where
 
 -- the receiver after a message
 abbrev pub received : Receiver → ChunkDeserializer → List ℕ → ℕ → Receiver
-received r d buffer n = record { decoder = tells (r .tells) d .deserializer; buffer = buffer; unread = drop n (r .unread); tells = tail (r .tells) }
+received r d buffer n = record { decoder = tellFirst (r .tells) d .deserializer; buffer = buffer; unread = drop n (r .unread); tells = tail (r .tells) }
 
 -- a packet is to come, and then what is to come after it
 pub record Coming (p : Packet) (Then : Receiver → Type 0) (r : Receiver) : Type 0 where
@@ -44,7 +44,7 @@ pub record Coming (p : Packet) (Then : Receiver → Type 0) (r : Receiver) : Typ
   pub buffer : List ℕ
   pub runs : run (r .unread) (r .decoder) (r .buffer) 0 ≡ outcome (found (p .message .type) (p .message .stream) (p .message .time) length-of used-of) decoder buffer
   pub payload : take length-of buffer ≡ p .message .payload
-  pub takes : tells (r .tells) decoder .answer ≡ taken
+  pub takes : tellFirst (r .tells) decoder .answer ≡ taken
   pub then : Then (received r decoder buffer used-of)
 
 abbrev pub Awaits : List Packet → Receiver → Type 0

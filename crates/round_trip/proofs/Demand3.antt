@@ -19,7 +19,7 @@ use Rattle.deserializer.specs.Call.{run}
 use Rattle.deserializer.specs.Told.{between, outcome as telling, sized, taken, told, maxRoom, maxSize, made}
 use Rattle.deserializer.proofs.Reached.{Reached, told-reached}
 use Rattle.deserializer.proofs.Sound.{never}
-use Rattle.round_trip.specs.Demand3.{Call, Demand3, HandsOut, InRange, LeavesOutDroppable, Message, Packet, Ranged, Receiver, Sending, Tell, bytes, encodes, keep, kept, last, log, longest, mayBeLeftOut, message, messageOf, receiver, resize, send, tellOf, tells}
+use Rattle.round_trip.specs.Demand3.{Call, Demand3, HandsOut, InRange, LeavesOutDroppable, Message, Packet, Ranged, Receiver, Sending, Tell, bytes, encodes, keep, kept, last, log, longest, mayBeLeftOut, message, messageOf, receiver, resize, send, tellOf, tellFirst}
 use Rattle.round_trip.proofs.Agreeing.{Agrees, awake, fresh-agree, handed-over, left-out}
 use Rattle.round_trip.proofs.Awaiting.{Awaits, Over, comes-by, none-left, note, uses-all}
 use Rattle.round_trip.proofs.Packets.{packet-reads}
@@ -46,9 +46,9 @@ receiving d buffer packets = record { decoder = d; buffer = buffer; unread = byt
 
 -- what is told after a packet's message is taken, and leaves encoder and decoder agreeing
 record Tells (s : ChunkSerializer) (c : Call) (later : List Tell) (d : ChunkDeserializer) : Type 0 where
-  takes : tells (tellOf c ∷ later) d .answer ≡ taken
-  agrees : Agrees (remember s (encoded c) (sizeAfter s c)) (tells (tellOf c ∷ later) d .deserializer)
-  room : tells (tellOf c ∷ later) d .deserializer .room ≡ d .room
+  takes : tellFirst (tellOf c ∷ later) d .answer ≡ taken
+  agrees : Agrees (remember s (encoded c) (sizeAfter s c)) (tellFirst (tellOf c ∷ later) d .deserializer)
+  room : tellFirst (tellOf c ∷ later) d .deserializer .room ≡ d .room
 
 tells-on : (s : ChunkSerializer) (d : ChunkDeserializer) (c : Call) (later : List Tell) (d′ : ChunkDeserializer) → Agrees s d → Taken c → Ranged c
     → At d (header (encoded c) (previous s (encoded c))) 0 0 d′

@@ -7,6 +7,7 @@ pub mod Later
 pub mod Packets
 pub mod Pieces
 pub mod Reading
+pub mod Runs
 pub mod Sent
 pub mod Taking
 pub mod Wire

@@ -121,10 +121,10 @@ pub data Note : Type 0 where
   refused : (number : ℕ) → Note
 
 -- "told each new size straight after its message"
-abbrev pub tells : List Tell → ChunkDeserializer → Told
-tells [] d = telling taken d
-tells (nothing ∷ later) d = telling taken d
-tells (new size ∷ later) d = told d size
+abbrev pub tellFirst : List Tell → ChunkDeserializer → Told
+tellFirst [] d = telling taken d
+tellFirst (nothing ∷ later) d = telling taken d
+tellFirst (new size ∷ later) d = told d size
 
 abbrev pub refusals : Size → List Note
 refusals taken = []
@@ -139,7 +139,7 @@ abbrev pub offered : Receiver → ℕ → Decoded
 offered r n = next (r .decoder) (take n (r .unread)) (r .buffer)
 
 abbrev pub notesOf : Listed → Decoded → List Tell → List Note
-notesOf (found type stream time length used) o later = handed (message type stream time (take length (o .payload))) ∷ refusals (tells later (o .deserializer) .answer)
+notesOf (found type stream time length used) o later = handed (message type stream time (take length (o .payload))) ∷ refusals (tellFirst later (o .deserializer) .answer)
 notesOf (more used) o later = []
 notesOf (not-read number used) o later = refused number ∷ []
 
@@ -148,7 +148,7 @@ notes r n = notesOf (offered r n .answer) (offered r n) (r .tells)
 
 abbrev pub afterOf : Listed → Decoded → Receiver → Receiver
 afterOf (found type stream time length used) o r =
-    record { decoder = tells (r .tells) (o .deserializer) .deserializer; buffer = o .payload; unread = drop used (r .unread); tells = tail (r .tells) }
+    record { decoder = tellFirst (r .tells) (o .deserializer) .deserializer; buffer = o .payload; unread = drop used (r .unread); tells = tail (r .tells) }
 afterOf (more used) o r = record { decoder = o .deserializer; buffer = o .payload; unread = drop used (r .unread); tells = r .tells }
 afterOf (not-read number used) o r = record { decoder = o .deserializer; buffer = o .payload; unread = drop used (r .unread); tells = r .tells }
 

@@ -1,0 +1,61 @@
+// A trip: calls of an encoder, of which some are refused and some packets are left out; the other packets cut into pieces, and
+// offered to a decoder; and what comes out beside what was kept.
+mod decode;
+mod encode;
+mod parts;
+mod plan;
+mod print;
+
+use crate::decode::Arrived;
+use crate::decode::decode;
+use crate::encode::encode_all;
+use crate::parts::part;
+use crate::print::print;
+use crate::print::print_numbered;
+
+// The first of two that went wrong, or else the second.
+fn worse(a: Arrived, b: Arrived) -> Arrived {
+    if a.is_good {
+        return b;
+    }
+    a
+}
+
+// Writes how the trip ended: `count` packets of `length` bytes were kept.
+fn print_end(is_good: bool, arrived: Arrived, count: usize, length: usize) {
+    if is_good && arrived.is_good {
+        print_numbered(b"trip ok: ", arrived.count as u64);
+    } else {
+        print_numbered(b"trip failed: ", arrived.count as u64);
+        print_numbered(b" of ", count as u64);
+    }
+    print_numbered(b" messages, ", arrived.used as u64);
+    print_numbered(b" of ", length as u64);
+    print(b" bytes\n");
+}
+
+// Makes the way in three times: byte by byte, by sevens and in one piece.
+fn arrive(bytes: &[u8], kept: &[u8], payload: &mut [u8], sent: &mut [u8]) -> Arrived {
+    let ones = decode(bytes, kept, 1, payload, sent);
+    let sevens = decode(bytes, kept, 7, payload, sent);
+    let whole = decode(bytes, kept, bytes.len(), payload, sent);
+    worse(ones, worse(sevens, whole))
+}
+
+// Makes the trip.
+fn run(wire: &mut [u8], places: &mut [u8], sent: &mut [u8], output: &mut [u8], payload: &mut [u8]) {
+    let encoded = encode_all(wire, places, sent, output);
+    let bytes = part(wire, 0, encoded.filled);
+    let kept = part(places, 0, encoded.count);
+    let arrived = arrive(bytes, kept, payload, sent);
+    print_end(encoded.is_good, arrived, kept.len(), bytes.len());
+}
+
+fn main() {
+    let mut wire = [0u8; 4096];
+    let mut places = [0u8; 16];
+    let mut sent = [0u8; 256];
+    let mut output = [0u8; 512];
+    let mut payload = [0u8; 256];
+    run(&mut wire, &mut places, &mut sent, &mut output, &mut payload);
+}
