@@ -39,7 +39,7 @@ reads n bs h k =
     }
 
 -- four bytes, as the little-endian bytes of a number of 32 bits
-written : (a b c e : ℕ) → a < 256 → b < 256 → c < 256 → e < 256 → littleEndian 4 (gather 0 (e ∷ c ∷ b ∷ a ∷ [])) ≡ a ∷ b ∷ c ∷ e ∷ []
+pub written : (a b c e : ℕ) → a < 256 → b < 256 → c < 256 → e < 256 → littleEndian 4 (gather 0 (e ∷ c ∷ b ∷ a ∷ [])) ≡ a ∷ b ∷ c ∷ e ∷ []
 unfolding littleEndian gather
 written a b c e ha hb hc he =
     rw (

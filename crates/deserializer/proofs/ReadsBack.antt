@@ -1,8 +1,8 @@
 -- The machine reads back a whole chunk: its basic header names the row, its header settles the row, its payload fills the buffer.
 use Prim.Native.Nat.{ℕ, _+_, _-_, _≤_, _<_}
-use mathlib.Core.Path.{_≡_, refl, _∙_}
+use mathlib.Core.Path.{_≡_, refl, ap, _∙_}
 use mathlib.Core.Logic.{_≢_}
-use mathlib.Core.Bool.{Bool, true, false, cond, not}
+use mathlib.Core.Bool.{Bool, true, false, cond}
 use mathlib.Core.List.{List, [], _∷_, _++_, append-assoc}
 use native.Mathlib.Nat.{add-zero}
 use native.Mathlib.Omega.{arith}
@@ -21,7 +21,7 @@ use Rattle.deserializer.specs.declared.reader.Stage.the-variants.{Csid, 
 use Rattle.deserializer.specs.declared.reader.Stepped.{Stepped}
 use Rattle.deserializer.specs.Call.{after, isRefusal, run}
 use Rattle.deserializer.specs.Chunk.{ChunkFits, FormFits, HeadFits, basicRefused, formatFor, got, header, headerRefused, inside, left, placeOf, row, says, stored}
-use Rattle.deserializer.specs.Machine.{at, current, go, landed, named, opens, reader, refuse, timestampNext, unfinished, whole}
+use Rattle.deserializer.specs.Machine.{at, current, ended, go, landed, named, opens, reader, refuse, timestampNext, unfinished, whole}
 use Rattle.deserializer.specs.Meaning.{basicRefusal, firstRefusal, laterRefusal}
 use Rattle.deserializer.specs.Rows.{claimed, find, free, putRow}
 use Rattle.deserializer.proofs.Fields.{Reaches}
@@ -118,7 +118,7 @@ module _ (d : ChunkDeserializer) (c : Chunk) (payload : List ℕ) where
           rw (k, e, u, q)
 
   -- the reader whose header is settled
-  abbrev settled : Stage → Reader
+  abbrev pub settled : Stage → Reader
   settled st = reader st (current (formatFor (c .header)) (placeOf (d .rows) (c .id)) (row d c) (stored d c) 0) (d .reader .message)
 
   settles : (st : Stage) → headerRefused d c ≡ 0
@@ -246,6 +246,31 @@ module _ (d : ChunkDeserializer) (c : Chunk) (payload : List ℕ) where
             ∙ h .reached
             ∙ x .reached;
       }
+
+  -- what opening a payload settles is never a refusal, and goes by no stage
+  opens-quietly : (st : Stage) → isRefusal (opens (d .«max_chunk_size») (settled st) (got d c) .event) ≡ false
+  unfolding opens
+  opens-quietly st = by-length (eqb (header d c .«message_length») 0)
+    where
+      by-length : (t : Bool) → isRefusal (cond t (ended (settled st)) (go paying) .event) ≡ false
+      by-length true = refl
+      by-length false = refl
+
+  stage-forgotten : (st : Stage) → opens (d .«max_chunk_size») (settled st) (got d c) ≡ opens (d .«max_chunk_size») (settled Csid) (got d c)
+  unfolding opens
+  stage-forgotten st = refl
+
+  -- a whole header that is not refused, up to its payload
+  pub opened : (n : ℕ) (rest : List ℕ) → d .reader .stage ≡ Csid → HeadFits d c → basicRefused d c ≡ 0 → headerRefused d c ≡ 0 → Rowed d c
+      → run (basicOf c ++ (headOf c ++ (extendedOf c ++ rest))) d payload n
+      ≡ then (claiming d (c .id)) (opens (d .«max_chunk_size») (settled Csid) (got d c)) payload (n + length (basicOf c) + length (headOf c) + length (extendedOf c)) rest
+  opened n rest s fits k j f =
+      let h = headed-back n rest s fits k f in
+      let m = n + length (basicOf c) + length (headOf c) + length (extendedOf c) in
+      h .reached
+      ∙ ap (λ (x : Stepped). then (holding (claiming d (c .id)) (h .held)) x payload m rest) (settles (h .stage) j)
+      ∙ held-forgotten (claiming d (c .id)) (h .held) (opens (d .«max_chunk_size») (settled (h .stage)) (got d c)) payload m rest (opens-quietly (h .stage))
+      ∙ ap (λ (x : Stepped). then (claiming d (c .id)) x payload m rest) (stage-forgotten (h .stage))
 
   -- a whole chunk that is not refused
   pub reads-back : (n : ℕ) (rest : List ℕ) → d .reader .stage ≡ Csid → ChunkFits d c → basicRefused d c ≡ 0 → headerRefused d c ≡ 0 → Rowed d c → Within d c

@@ -4,6 +4,7 @@ ghost use Prim.Native.Nat.{_≤_, _<_, min};
 ghost use lib.ListN.{length};
 ghost use Rattle.deserializer.specs.Call.{closes as Call·closes, isRefusal, putAt};
 ghost use Rattle.deserializer.specs.Turn.{Keeps, Pays, Turned, changed as Turn·changed};
+use crate::head::head;
 use crate::parts::refuse;
 use crate::payload::in_payload;
 use crate::payload::landed;
@@ -14,7 +15,6 @@ use crate::reader::Stepped;
 use crate::rows::ROWS;
 use crate::rows::Row;
 use crate::rows::put_row;
-use crate::step::step;
 use fields::put_bytes;
 use time::RtmpTimestamp;
 
@@ -158,6 +158,7 @@ pub fn turn(core: Core, rows: &mut [u32; 384], input: &[u8], at: usize, payload:
         let stepped = refuse(reader, 255);
         return keep(core, rows, stepped, at + 1);
     }
-    let stepped = step(core.room, core.max_chunk_size, rows, reader, input[at]);
-    keep(core, rows, stepped, at + 1)
+    let taken = head(core, rows, &input[at..]);
+    let stepped = taken.stepped;
+    keep(core, rows, stepped, at + taken.length)
 }

@@ -34,7 +34,7 @@ fn lacking(length: u32, got: u32) -> u32
 }
 
 // The payload of a chunk. A message of no bytes ends here.
-fn opens(size: u32, reader: Reader, got: u32) -> Stepped
+pub fn opens(size: u32, reader: Reader, got: u32) -> Stepped
     ensures { λ r. ⌜ r ≡ Machine·opens size reader got ⌝ }
 {
     let chunk = reader.chunk;

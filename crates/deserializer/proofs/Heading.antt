@@ -1,0 +1,248 @@
+-- A header that is all there does in one turn what its bytes do one by one: they are a chunk's head, which is read back.
+use Prim.Native.Nat.{ℕ, _+_, _-_, _*_, _%_, _^_, _≤_, _<_}
+use mathlib.Core.Path.{_≡_, refl, sym, ap, _∙_}
+use mathlib.Core.Logic.{_≢_}
+use mathlib.Core.Bool.{Bool, true, false, cond, not}
+use mathlib.Core.List.{List, [], _∷_, _++_, append-assoc}
+use native.Mathlib.Omega.{arith}
+use lib.Dec.{eqb, lit≤, ltb}
+use lib.ListN.{length, take, drop, getD, length-drop, length-take, take-append-drop}
+use lib.Seq.{drop-cons, drop-drop, take-all}
+use borrow.Author.Tests.{lt-ltb}
+use Rattle.fields.specs.Endian.{Bytes, bigEndian, gather, littleEndian, number}
+use Rattle.fields.proofs.Endian.{bytes-little, length-little, number-lt}
+use Rattle.fields.proofs.Lists.{big-take, bytes-drop, bytes-take}
+use Rattle.chunk_header.specs.declared.ChunkHeaderFormat.{ChunkHeaderFormat}
+use Rattle.chunk_header.specs.declared.ChunkHeaderFormat.the-variants.{Full, TimeDeltaWithoutMessageStreamId, TimeDeltaOnly, Empty}
+use Rattle.chunk_header.specs.Layout.{Chunk, absent, format as type-number, headerBytes, one}
+use Rattle.chunk_header.specs.Table.{fieldLength, headerLength, typeOf}
+use Rattle.chunk_header.proofs.Table.{type-of-byte}
+use Rattle.deserializer.specs.declared.ChunkDeserializer.{ChunkDeserializer}
+use Rattle.deserializer.specs.declared.call.Core.{Core}
+use Rattle.deserializer.specs.declared.head.Taken.{Taken}
+use Rattle.deserializer.specs.declared.reader.Stage.{Stage}
+use Rattle.deserializer.specs.declared.reader.Stage.the-variants.{Csid, CsidSecond, CsidThird, InitialTimestamp, MessageLength, MessageTypeId, MessageStreamId, ExtendedTimestamp, MessagePayload}
+use Rattle.deserializer.specs.declared.rows.Row.{Row}
+use Rattle.deserializer.specs.Call.{run}
+use Rattle.deserializer.specs.Chunk.{HeadFits, HeaderFits, basicRefused, carried, formatFor, got, header, headerRefused, row}
+use Rattle.deserializer.specs.Head.{Heads, Known, headerIn, refusalOf, settledBy}
+use Rattle.deserializer.specs.Machine.{inPayload, opens, stepped, swapped}
+use Rattle.deserializer.specs.Meaning.{basicRefusal, firstRefusal, laterRefusal, maxField}
+use Rattle.deserializer.specs.Rows.{find, free, rowAt}
+use Rattle.deserializer.specs.Told.{atStart}
+use Rattle.deserializer.specs.Turn.{whole}
+use Rattle.deserializer.proofs.Covers.{written}
+use Rattle.deserializer.proofs.Reading.{turned}
+use Rattle.deserializer.proofs.ReadsBack.{basicOf, claiming, headOf, opened, settled}
+use Rattle.deserializer.proofs.RowLaws.{find-tells}
+use Rattle.deserializer.proofs.Runs.{run-header, then}
+use Rattle.deserializer.proofs.Sound.{clash, never}
+
+-- one byte as a number
+pub one-number : (bs : List ℕ) (i : ℕ) → i < length bs → number (take 1 (drop i bs)) ≡ getD bs i 0
+unfolding gather
+one-number bs i h = rw (drop-cons bs i 0 h) (omega arith)
+
+-- four bytes, as the little-endian bytes of their swapped number
+little-take : (bs : List ℕ) → Bytes bs → 4 ≤ length bs → littleEndian 4 (swapped (number (take 4 bs))) ≡ take 4 bs
+little-take [] h k = absurd (omega arith)
+little-take (a ∷ []) h k = absurd (omega arith)
+little-take (a ∷ b ∷ []) h k = absurd (omega arith)
+little-take (a ∷ b ∷ c ∷ []) h k = absurd (omega arith)
+little-take (a ∷ b ∷ c ∷ e ∷ bs) h k = (rw (turned a b c e (h 0) (h 1) (h 2) (h 3))) ∙ written a b c e (h 0) (h 1) (h 2) (h 3)
+
+swapped-small : (n : ℕ) → swapped n < 2 ^ 32
+swapped-small n = rw (length-little 4 n) at (number-lt (littleEndian 4 n) (bytes-little 4 n))
+
+-- the bytes after the first, as the header's and the rest
+module _ (bs : List ℕ) (h : Bytes bs) where
+  field-bytes : (at n : ℕ) → at + n ≤ length bs → bigEndian n (number (take n (drop at bs))) ++ drop (at + n) bs ≡ drop at bs
+  field-bytes at n k =
+      (rw (big-take n (drop at bs) (bytes-drop at bs h) (rw length-drop (omega arith)), ← drop-drop n at bs)) ∙ take-append-drop n (drop at bs)
+
+  stream-bytes : 12 ≤ length bs → littleEndian 4 (swapped (number (take 4 (drop 8 bs)))) ++ drop 12 bs ≡ drop 8 bs
+  stream-bytes k =
+      (rw (little-take (drop 8 bs) (bytes-drop 8 bs h) (rw length-drop (omega arith)), ← drop-drop 4 8 bs)) ∙ take-append-drop 4 (drop 8 bs)
+
+  -- a number of n bytes
+  field-small : (at n : ℕ) → at + n ≤ length bs → number (take n (drop at bs)) < 256 ^ n
+  field-small at n k =
+      let l : length (take n (drop at bs)) ≡ n = rw (length-take, length-drop) (omega arith) in
+      rw l at (number-lt (take n (drop at bs)) (bytes-take n (drop at bs) (bytes-drop at bs h)))
+
+  head-rest : (f : ChunkHeaderFormat) → 1 + headerLength (typeOf f) ≤ length bs → headerBytes (headerIn f bs) ++ drop (1 + headerLength (typeOf f)) bs ≡ drop 1 bs
+  unfolding headerLength fieldLength
+  head-rest Full k =
+      (simp append-assoc)
+      ∙ ap (λ (l : List ℕ). bigEndian 3 (number (take 3 (drop 1 bs))) ++ (bigEndian 3 (number (take 3 (drop 4 bs))) ++ (bigEndian 1 (number (take 1 (drop 7 bs))) ++ l))) (stream-bytes k)
+      ∙ ap (λ (l : List ℕ). bigEndian 3 (number (take 3 (drop 1 bs))) ++ (bigEndian 3 (number (take 3 (drop 4 bs))) ++ l)) (field-bytes 7 1 (omega (arith, k)))
+      ∙ ap (λ (l : List ℕ). bigEndian 3 (number (take 3 (drop 1 bs))) ++ l) (field-bytes 4 3 (omega (arith, k)))
+      ∙ field-bytes 1 3 (omega (arith, k))
+  head-rest TimeDeltaWithoutMessageStreamId k =
+      (simp append-assoc)
+      ∙ ap (λ (l : List ℕ). bigEndian 3 (number (take 3 (drop 1 bs))) ++ (bigEndian 3 (number (take 3 (drop 4 bs))) ++ l)) (field-bytes 7 1 (omega (arith, k)))
+      ∙ ap (λ (l : List ℕ). bigEndian 3 (number (take 3 (drop 1 bs))) ++ l) (field-bytes 4 3 (omega (arith, k)))
+      ∙ field-bytes 1 3 (omega (arith, k))
+  head-rest TimeDeltaOnly k = field-bytes 1 3 (omega (arith, k))
+  head-rest Empty k = refl
+
+  fields-fit : (f : ChunkHeaderFormat) → 1 + headerLength (typeOf f) ≤ length bs → HeaderFits (headerIn f bs)
+  unfolding headerLength fieldLength
+  fields-fit Full k = (field-small 1 3 (omega (arith, k)), field-small 4 3 (omega (arith, k)), field-small 7 1 (omega (arith, k)), swapped-small (number (take 4 (drop 8 bs))))
+  fields-fit TimeDeltaWithoutMessageStreamId k = (field-small 1 3 (omega (arith, k)), field-small 4 3 (omega (arith, k)), field-small 7 1 (omega (arith, k)))
+  fields-fit TimeDeltaOnly k = field-small 1 3 (omega (arith, k))
+  fields-fit Empty k = tt
+
+-- the format that a header says, and its type's number
+format-in : (f : ChunkHeaderFormat) (bs : List ℕ) → formatFor (headerIn f bs) ≡ f
+format-in Full bs = refl
+format-in TimeDeltaWithoutMessageStreamId bs = refl
+format-in TimeDeltaOnly bs = refl
+format-in Empty bs = refl
+
+type-in : (f : ChunkHeaderFormat) (bs : List ℕ) → type-number (headerIn f bs) ≡ typeOf f
+type-in Full bs = refl
+type-in TimeDeltaWithoutMessageStreamId bs = refl
+type-in TimeDeltaOnly bs = refl
+type-in Empty bs = refl
+
+head-length : (f : ChunkHeaderFormat) (bs : List ℕ) → length (headerBytes (headerIn f bs)) ≡ headerLength (typeOf f)
+unfolding headerLength fieldLength bigEndian littleEndian
+head-length Full bs = refl
+head-length TimeDeltaWithoutMessageStreamId bs = refl
+head-length TimeDeltaOnly bs = refl
+head-length Empty bs = refl
+
+-- with a row, a free one does not matter
+with-row : (f : ChunkHeaderFormat) (unused inside own : Bool) → basicRefusal f true true inside own ≡ basicRefusal f true unused inside own
+unfolding basicRefusal
+with-row Full unused inside own = refl
+with-row TimeDeltaWithoutMessageStreamId unused inside own = refl
+with-row TimeDeltaOnly unused inside own = refl
+with-row Empty unused inside own = refl
+
+-- the chunk that begins with the input's first bytes, as far as its payload
+module _ (c : Core) (rows bs : List ℕ) (f : ChunkHeaderFormat) (place : ℕ) (w : Known c rows bs f place) (r h : Row) (row-is : r ≡ rowAt rows place)
+    (header-is : h ≡ carried (headerIn f bs) r) (plain : h .«timestamp_field» ≢ maxField)
+    (basic : basicRefusal f true true (not (eqb (c .reader .message .id) 0)) (eqb (c .reader .message .id) (r .id)) ≡ 0)
+    (head : refusalOf f r h (c .reader .message) (c .room) ≡ 0) where
+  abbrev id : ℕ
+  id = getD bs 0 0 % 64
+
+  abbrev begun : Chunk
+  begun = record { form = one; id = id; header = headerIn f bs; extended = absent; payload = [] }
+
+  abbrev d : ChunkDeserializer
+  d = whole c rows
+
+  found : ltb (find rows id) 64 ≡ true
+  found = lt-ltb (find rows id) 64 (rw (w .place-is) at (w .found))
+
+  its-row : row d begun ≡ r
+  its-row = rw (found, row-is, w .place-is)
+
+  its-header : header d begun ≡ h
+  its-header = rw (its-row, header-is)
+
+  its-id : r .id ≡ id
+  its-id = rw (row-is, w .place-is) (find-tells rows id (rw (w .place-is) at (w .found)))
+
+  -- the bytes are the chunk's
+  first-byte : 64 * typeOf f + id ≡ getD bs 0 0
+  first-byte = omega (arith, ap typeOf (w .format-is) ∙ type-of-byte (getD bs 0 0) (w .bytes 0))
+
+  its-bytes : bs ≡ basicOf begun ++ (headOf begun ++ drop (1 + headerLength (typeOf f)) bs)
+  its-bytes = drop-cons bs 0 0 (omega (arith, w .long)) ∙ (rw (type-in f bs, first-byte, head-rest bs (w .bytes) f (w .long)))
+
+  not-basic : basicRefused d begun ≡ 0
+  not-basic = rw (format-in f bs, found, ← with-row f (ltb (free rows) 64) (not (eqb (c .reader .message .id) 0)) (eqb (c .reader .message .id) id), ← its-id) basic
+
+  not-head : headerRefused d begun ≡ 0
+  not-head = rw (format-in f bs, its-header, its-row) (by-message (eqb (c .reader .message .id) 0) refl)
+    where
+      by-message : (t : Bool) → eqb (c .reader .message .id) 0 ≡ t
+          → cond (not t) (laterRefusal f r h (h .«timestamp_field»)) (firstRefusal f h (h .«timestamp_field») (c .room)) ≡ 0
+      by-message true e = rw e at head
+      by-message false e = rw e at head
+
+  head-fits : HeadFits d begun
+  head-fits = record { form = (w .id, omega arith); fields = fields-fit bs (w .bytes) f (w .long); extended = rw its-header plain }
+
+  -- what is settled, by the row and the header
+  settles-so : opens (c .«max_chunk_size») (settled d begun [] Csid) (got d begun) ≡ settledBy (c .«max_chunk_size») f place r h (c .reader)
+  settles-so = by-message (eqb (c .reader .message .id) 0) refl
+    where
+      by-message : (t : Bool) → eqb (c .reader .message .id) 0 ≡ t
+          → opens (c .«max_chunk_size») (settled d begun [] Csid) (got d begun) ≡ settledBy (c .«max_chunk_size») f place r h (c .reader)
+      by-message true e = rw (e, format-in f bs, its-header, its-row, found, w .stage, w .place-is)
+      by-message false e = rw (e, format-in f bs, its-header, its-row, found, w .stage, w .place-is)
+
+  claimed-already : claiming d id ≡ d
+  claimed-already = rw found
+
+  pub known-runs : (payload : List ℕ) (n : ℕ)
+      → run bs d payload n
+      ≡ then d (settledBy (c .«max_chunk_size») f place r h (c .reader)) payload (n + (1 + headerLength (typeOf f))) (drop (1 + headerLength (typeOf f)) bs)
+  known-runs payload n =
+      let rest = drop (1 + headerLength (typeOf f)) bs in
+      let k : n + 1 + length (headOf begun) + 0 ≡ n + (1 + headerLength (typeOf f)) = omega (arith, head-length f bs) in
+      ap (λ (l : List ℕ). run l d payload n) its-bytes
+      ∙ opened d begun payload n rest (w .stage) head-fits not-basic not-head (λ e. clash e found)
+      ∙ (rw (claimed-already, settles-so, k))
+
+  pub heads-known : (t : Taken) → t .stepped ≡ settledBy (c .«max_chunk_size») f place r h (c .reader) → t .length ≡ 1 + headerLength (typeOf f) → Heads d bs t
+  heads-known t e l = record {
+    some = omega (arith, l);
+    within = omega (arith, l, w .long);
+    runs = λ payload n. known-runs payload n ∙ (rw (e, l));
+  }
+
+-- one byte of a header is one turn
+pub heads-byte : (d : ChunkDeserializer) (bs : List ℕ) (t : Taken) → inPayload (d .reader .stage) ≡ false → 0 < length bs
+    → t .stepped ≡ stepped (d .reader .stage) (d .room) (d .«max_chunk_size») (d .rows) (d .reader) (getD bs 0 0)
+    → t .length ≡ 1
+    → Heads d bs t
+heads-byte d bs t s some e l = record {
+  some = omega (arith, l);
+  within = omega (arith, l, some);
+  runs = λ payload n. ap (λ (xs : List ℕ). run xs d payload n) (drop-cons bs 0 0 some) ∙ run-header (getD bs 0 0) (drop 1 bs) d payload n s ∙ (rw (e, l));
+}
+
+-- a stage that is not midway is the start of a chunk
+pub starts : (stage : Stage) → not (atStart stage) ≡ false → stage ≡ Csid
+starts Csid e = refl
+starts (CsidSecond a) e = never (sym e)
+starts (CsidThird a b) e = never (sym e)
+starts (InitialTimestamp before lacks) e = never (sym e)
+starts (MessageLength before lacks) e = never (sym e)
+starts MessageTypeId e = never (sym e)
+starts (MessageStreamId before lacks) e = never (sym e)
+starts (ExtendedTimestamp before lacks) e = never (sym e)
+starts MessagePayload e = never (sym e)
+
+-- lengths of headers
+pub header-most : (f : ChunkHeaderFormat) → headerLength (typeOf f) ≤ 11
+unfolding headerLength fieldLength
+header-most Full = lit≤ tt
+header-most TimeDeltaWithoutMessageStreamId = lit≤ tt
+header-most TimeDeltaOnly = lit≤ tt
+header-most Empty = lit≤ tt
+
+pub full-length : (f : ChunkHeaderFormat) → f ≡ Full → 7 ≤ headerLength (typeOf f)
+unfolding headerLength fieldLength
+full-length f e = rw e (lit≤ tt)
+
+pub delta-length : (f : ChunkHeaderFormat) → f ≡ TimeDeltaWithoutMessageStreamId → 7 ≤ headerLength (typeOf f)
+unfolding headerLength fieldLength
+delta-length f e = rw e (lit≤ tt)
+
+-- a turn at a place of the input, over what is left of it
+module _ (d : ChunkDeserializer) (input : List ℕ) (at : ℕ) (t : Taken) (h : Heads d (take (length input - at) (drop at input)) t) where
+  rest-is : take (length input - at) (drop at input) ≡ drop at input
+  rest-is = take-all (length input - at) (drop at input) (rw length-drop (omega arith))
+
+  pub heads-within : at ≤ length input → at + t .length ≤ length input
+  heads-within k = omega (arith, k, h .within, ap length rest-is, length-drop at input)
+
+  pub heads-on : (payload : List ℕ) → run (drop at input) d payload at ≡ then d (t .stepped) payload (at + t .length) (drop (at + t .length) input)
+  heads-on payload = (rw (rest-is, drop-drop (t .length) at input) at (h .runs payload at))

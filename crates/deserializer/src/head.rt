@@ -1,0 +1,231 @@
+// A header in one turn, where all of it is there, its stream has a row and nothing is refused; a byte of it else.
+ghost use mathlib.Core.Path.{_≡_};
+ghost use mathlib.Core.Bool.{false, not};
+ghost use Prim.Native.Nat.{_+_, _≤_, _<_};
+ghost use lib.ListN.{length, take, drop};
+ghost use Rattle.fields.specs.Endian.{number};
+ghost use Rattle.chunk_header.specs.Table.{headerLength, typeOf};
+ghost use Rattle.deserializer.specs.Chunk.{carried as Chunk·carried};
+ghost use Rattle.deserializer.specs.Head.{Heads, Known, headerIn, refusalOf, settledBy};
+ghost use Rattle.deserializer.specs.Machine.{current, inPayload, reader as Machine·reader, swapped};
+ghost use Rattle.deserializer.specs.Told.{atStart};
+ghost use Rattle.deserializer.specs.Turn.{whole};
+use crate::call::Core;
+use crate::header::opens;
+use crate::parts::fielded;
+use crate::parts::lengthed;
+use crate::parts::streamed;
+use crate::parts::timed;
+use crate::parts::typed;
+use crate::reader::Current;
+use crate::reader::Reader;
+use crate::reader::Stage;
+use crate::reader::Stepped;
+use crate::reader::Unfinished;
+use crate::refusals::MAX_INITIAL_TIMESTAMP;
+use crate::refusals::basic_refusal;
+use crate::refusals::first_refusal;
+use crate::refusals::first_time;
+use crate::refusals::later_refusal;
+use crate::rows::ROWS;
+use crate::rows::Row;
+use crate::rows::find;
+use crate::rows::row_at;
+use crate::step::step;
+use chunk_header::ChunkHeaderFormat;
+use chunk_header::get_format;
+use chunk_header::header_length;
+use fields::number_at;
+use fields::swap_bytes;
+
+// What so many bytes do.
+pub struct Taken {
+    pub stepped: Stepped,
+    pub length: usize,
+}
+
+// Whether the next byte is not the first of a chunk.
+fn is_midway(stage: Stage) -> bool
+    ensures { λ r. ⌜ r ≡ not (atStart stage) ⌝ }
+{
+    match stage {
+        Stage::Csid => false,
+        Stage::CsidSecond(_) => true,
+        Stage::CsidThird(_, _) => true,
+        Stage::InitialTimestamp(_, _) => true,
+        Stage::MessageLength(_, _) => true,
+        Stage::MessageTypeId => true,
+        Stage::MessageStreamId(_, _) => true,
+        Stage::ExtendedTimestamp(_, _) => true,
+        Stage::MessagePayload => true,
+    }
+}
+
+// The fields of a header after a basic header of one byte.
+fn time_in(input: &[u8]) -> u32
+    ensures { λ r. ⌜ r ≡ number (take 3 (drop 1 (now (input .entry)))) ⌝ }
+{
+    number_at(input, 1, 3)
+}
+
+fn length_in(input: &[u8]) -> u32
+    ensures { λ r. ⌜ r ≡ number (take 3 (drop 4 (now (input .entry)))) ⌝ }
+{
+    number_at(input, 4, 3)
+}
+
+fn type_in(input: &[u8]) -> u8
+    requires { ⌜ 7 < length (now input) ⌝ }
+    ensures { λ r. ⌜ r ≡ number (take 1 (drop 7 (now (input .entry)))) ⌝ }
+{
+    input[7]
+}
+
+fn stream_in(input: &[u8]) -> u32
+    ensures { λ r. ⌜ r ≡ swapped (number (take 4 (drop 8 (now (input .entry))))) ⌝ }
+{
+    swap_bytes(number_at(input, 8, 4))
+}
+
+// The fields that a header has, in the place of the row's.
+fn carried(format: ChunkHeaderFormat, row: Row, input: &[u8]) -> Row
+    requires { ⌜ 1 + headerLength (typeOf format) ≤ length (now input) ⌝ }
+    ensures { λ r. ⌜ r ≡ Chunk·carried (headerIn format (now (input .entry))) row ⌝ }
+{
+    match format {
+        ChunkHeaderFormat::Full => {
+            let sized = lengthed(fielded(row, time_in(input)), length_in(input));
+            streamed(typed(sized, type_in(input)), stream_in(input))
+        }
+        ChunkHeaderFormat::TimeDeltaWithoutMessageStreamId => {
+            let sized = lengthed(fielded(row, time_in(input)), length_in(input));
+            typed(sized, type_in(input))
+        }
+        ChunkHeaderFormat::TimeDeltaOnly => fielded(row, time_in(input)),
+        ChunkHeaderFormat::Empty => row,
+    }
+}
+
+// What is refused at the last byte of a header that has no extended time; 0: nothing.
+fn refusal_of(
+    format: ChunkHeaderFormat,
+    row: Row,
+    header: Row,
+    message: Unfinished,
+    room: u32,
+) -> u8
+    ensures { λ r. ⌜ r ≡ refusalOf format row header message room ⌝ }
+{
+    if message.id == 0 {
+        return first_refusal(format, header, header.timestamp_field, room);
+    }
+    later_refusal(format, row, header, header.timestamp_field)
+}
+
+// The reader of a chunk whose header is read.
+fn reading(format: ChunkHeaderFormat, place: usize, row: Row, header: Row, reader: Reader) -> Reader
+    ensures { λ r. ⌜ r ≡ Machine·reader (reader .stage) (current format place row header 0) (reader .message) ⌝ }
+{
+    let stage = reader.stage;
+    let message = reader.message;
+    Reader {
+        stage: stage,
+        chunk: Current {
+            format: format,
+            place: place,
+            before: row,
+            header: header,
+            left: 0,
+        },
+        message: message,
+    }
+}
+
+// The chunk opened, up to its payload.
+fn settled(
+    size: u32,
+    format: ChunkHeaderFormat,
+    place: usize,
+    row: Row,
+    header: Row,
+    reader: Reader,
+) -> Stepped
+    ensures { λ r. ⌜ r ≡ settledBy size format place row header reader ⌝ }
+{
+    let message = reader.message;
+    let before = row.timestamp;
+    if message.id == 0 {
+        let timestamp = first_time(format, before, header.timestamp_field);
+        let first = reading(format, place, row, timed(header, timestamp), reader);
+        return opens(size, first, 0);
+    }
+    let later = reading(format, place, row, timed(header, before), reader);
+    opens(size, later, message.got)
+}
+
+// The next byte alone.
+fn by_byte(core: Core, rows: &[u32; 384], input: &[u8]) -> Taken
+    requires { ⌜ (0 < length (now input)) × (inPayload (core .reader .stage) ≡ false) ⌝ }
+    ensures { λ r. ⌜ Heads (whole core (now (rows .entry))) (now (input .entry)) r ⌝ }
+{
+    let reader = core.reader;
+    let stepped = step(core.room, core.max_chunk_size, rows, reader, input[0]);
+    Taken {
+        stepped: stepped,
+        length: 1,
+    }
+}
+
+// A header whose stream has a row, at a place.
+fn by_row(
+    core: Core,
+    rows: &[u32; 384],
+    input: &[u8],
+    format: ChunkHeaderFormat,
+    place: usize,
+) -> Taken
+    requires { ⌜ Known core (now rows) (now input) format place ⌝ }
+    ensures { λ r. ⌜ Heads (whole core (now (rows .entry))) (now (input .entry)) r ⌝ }
+{
+    let reader = core.reader;
+    let message = reader.message;
+    let row = row_at(rows, place);
+    let header = carried(format, row, input);
+    if header.timestamp_field == MAX_INITIAL_TIMESTAMP {
+        return by_byte(core, rows, input);
+    }
+    if basic_refusal(format, true, true, message.id != 0, message.id == row.id) != 0 {
+        return by_byte(core, rows, input);
+    }
+    if refusal_of(format, row, header, message, core.room) != 0 {
+        return by_byte(core, rows, input);
+    }
+    Taken {
+        stepped: settled(core.max_chunk_size, format, place, row, header, reader),
+        length: 1 + header_length(format),
+    }
+}
+
+pub fn head(core: Core, rows: &[u32; 384], input: &[u8]) -> Taken
+    requires { ⌜ (0 < length (now input)) × (inPayload (core .reader .stage) ≡ false) ⌝ }
+    ensures { λ r. ⌜ Heads (whole core (now (rows .entry))) (now (input .entry)) r ⌝ }
+{
+    let reader = core.reader;
+    let stage = reader.stage;
+    let byte = input[0];
+    let format = get_format(byte);
+    if is_midway(stage) {
+        return by_byte(core, rows, input);
+    }
+    if byte % 64 < 2 {
+        return by_byte(core, rows, input);
+    }
+    if input.len() < 1 + header_length(format) {
+        return by_byte(core, rows, input);
+    }
+    let place = find(rows, (byte % 64) as u32);
+    if ROWS <= place {
+        return by_byte(core, rows, input);
+    }
+    by_row(core, rows, input, format, place)
+}
