@@ -5,6 +5,7 @@ ghost use lib.ListN.{length};
 ghost use Rattle.deserializer.specs.Call.{closes as Call·closes, isRefusal, putAt};
 ghost use Rattle.deserializer.specs.Turn.{Keeps, Pays, Turned, changed as Turn·changed};
 use crate::head::head;
+use crate::head::is_midway;
 use crate::parts::refuse;
 use crate::payload::in_payload;
 use crate::payload::landed;
@@ -15,6 +16,7 @@ use crate::reader::Stepped;
 use crate::rows::ROWS;
 use crate::rows::Row;
 use crate::rows::put_row;
+use crate::step::step;
 use fields::put_bytes;
 use time::RtmpTimestamp;
 
@@ -144,7 +146,7 @@ fn stretch(core: Core, rows: &mut [u32; 384], input: &[u8], at: usize, payload: 
     keep(core, rows, stepped, at + n)
 }
 
-// Takes a byte of a header, or a stretch of a payload.
+// Takes a stretch of a payload, a byte of a header that was cut, or a header from its start.
 pub fn turn(core: Core, rows: &mut [u32; 384], input: &[u8], at: usize, payload: &mut [u8]) -> Moved
     requires { ⌜ (core .room ≤ length (now payload)) × (at < length (now input)) ⌝ }
     ensures { λ r. ⌜ Turned core (now (rows .entry)) (now (input .entry)) at (now (payload .entry)) r (now (rows .exit)) (now (payload .exit)) ⌝ }
@@ -156,6 +158,10 @@ pub fn turn(core: Core, rows: &mut [u32; 384], input: &[u8], at: usize, payload:
             return stretch(core, rows, input, at, payload);
         }
         let stepped = refuse(reader, 255);
+        return keep(core, rows, stepped, at + 1);
+    }
+    if is_midway(stage) {
+        let stepped = step(core.room, core.max_chunk_size, rows, reader, input[at]);
         return keep(core, rows, stepped, at + 1);
     }
     let taken = head(core, rows, &input[at..]);

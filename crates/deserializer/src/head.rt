@@ -8,6 +8,7 @@ ghost use Rattle.chunk_header.specs.Table.{headerLength, typeOf};
 ghost use Rattle.deserializer.specs.Chunk.{carried as Chunk·carried};
 ghost use Rattle.deserializer.specs.Head.{Heads, Known, headerIn, refusalOf, settledBy};
 ghost use Rattle.deserializer.specs.Machine.{current, inPayload, reader as Machine·reader, swapped};
+ghost use Rattle.deserializer.specs.declared.reader.Stage.the-variants.{Csid};
 ghost use Rattle.deserializer.specs.Told.{atStart};
 ghost use Rattle.deserializer.specs.Turn.{whole};
 use crate::call::Core;
@@ -45,7 +46,7 @@ pub struct Taken {
 }
 
 // Whether the next byte is not the first of a chunk.
-fn is_midway(stage: Stage) -> bool
+pub fn is_midway(stage: Stage) -> bool
     ensures { λ r. ⌜ r ≡ not (atStart stage) ⌝ }
 {
     match stage {
@@ -207,16 +208,11 @@ fn by_row(
 }
 
 pub fn head(core: Core, rows: &[u32; 384], input: &[u8]) -> Taken
-    requires { ⌜ (0 < length (now input)) × (inPayload (core .reader .stage) ≡ false) ⌝ }
+    requires { ⌜ (0 < length (now input)) × (core .reader .stage ≡ Csid) ⌝ }
     ensures { λ r. ⌜ Heads (whole core (now (rows .entry))) (now (input .entry)) r ⌝ }
 {
-    let reader = core.reader;
-    let stage = reader.stage;
     let byte = input[0];
     let format = get_format(byte);
-    if is_midway(stage) {
-        return by_byte(core, rows, input);
-    }
     if byte % 64 < 2 {
         return by_byte(core, rows, input);
     }
