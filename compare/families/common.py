@@ -11,6 +11,8 @@ FULL = 16777215
 HALF = 2**31
 ROUND = 2**32
 
+# Numbers near each edge.
+NEAR = [0, 1, 2, FULL - 1, FULL, FULL + 1, HALF - 1, HALF, HALF + 1, ROUND - 2, ROUND - 1]
 # Numbers at which the clock, the time fields or the document's own examples turn.
 TIMES = [0, 1, 2, 5, 10, 20, 40, 80, 1000, 10000, FULL - 1, FULL, FULL + 1, HALF - 2, HALF - 1, HALF,
          HALF + 1, HALF + 2, 3000000000, 4000000000, ROUND - 10, ROUND - 2, ROUND - 1]
@@ -28,6 +30,11 @@ def random_bytes(r, count):
 
 def often(r, percent):
     return r.randrange(100) < percent
+
+
+def chosen(r, runs, most):
+    """All runs, or as many of them as there is room for."""
+    return runs if len(runs) <= most else r.sample(runs, most)
 
 
 class Driver:
@@ -50,8 +57,9 @@ class Driver:
 class Writer:
     """Collects a family's calls in files of a handy length, each a script of its own."""
 
-    def __init__(self, family, families, folder, driver_path):
+    def __init__(self, family, families, folder, driver_path, is_long):
         self.family, self.families, self.folder, self.driver_path = family, families, folder, driver_path
+        self.is_long = is_long
         self.calls, self.files = 0, 0
         self.lines, self.size, self.driver = [], 0, None
 

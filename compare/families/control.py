@@ -8,6 +8,9 @@ KNOWN = [0, 1, 2, 3, 4, 6, 7, 31, 32]
 def make(r, writer, calls):
     every_code_and_length(r, writer)
     every_event_and_output(r, writer)
+    if writer.is_long:
+        every_code_there_is(r, writer)
+        calls += writer.calls
     while writer.calls < calls:
         writer.call(r.choice([any_read, any_write])(r))
         writer.end_of_run()
@@ -19,6 +22,12 @@ def every_code_and_length(r, writer):
     for code in codes:
         for length in range(13):
             writer.call(read(r, code, length))
+        writer.end_of_run()
+
+
+def every_code_there_is(r, writer):
+    for code in range(65536):
+        writer.call(read(r, code, r.choice([2, 5, 6, 9, 10, 11])))
         writer.end_of_run()
 
 

@@ -1,10 +1,11 @@
 """Runs of a decoder: what encoders write, what the wire allows besides, and what is refused."""
-from .common import BAD_SIZES, FULL, GOOD_SIZES, HALF, MOST_BUFFER, ROUND, hexed, often, random_bytes
-from .encoder import Scout, Talker
+from .common import BAD_SIZES, FULL, GOOD_SIZES, HALF, MOST_BUFFER, ROUND, chosen, hexed, often, random_bytes
+from .encoder import Scout, Talker, longest
 from .sender import Row, Sender
 
 
 def make(r, writer, calls):
+    every_form_of_id(r, writer, calls // 30)
     scout = Scout(writer.driver_path)
     while writer.calls < calls:
         run = r.choice([encoder_output, hand_made, hand_made, damaged, damaged, spoilt, spoilt, spoilt, many_streams])
@@ -16,9 +17,22 @@ def make(r, writer, calls):
 # The kinds of runs. The bytes of a run come as parts: some bytes, and the chunk size to tell once
 # they are used up, or None.
 
+def every_form_of_id(r, writer, most):
+    """Every id of one byte and of two, and some of three: every form that says the id, by each of the four types."""
+    sender = Sender(r, 1)
+    ids = chosen(r, list(range(2, 320)) + [320, 65599] + [r.randint(321, 65598) for _ in range(180)], most)
+    for i, id in enumerate(ids):
+        if i % 64 == 0:
+            writer.call("dec new 65536")
+        for chunk_type, fields in enumerate((b"\0\0\5\0\0\1\t\1\0\0\0", b"\0\0\5\0\0\2\b\x55", b"\0\0\7\x55", b"\x55")):
+            for form in sender.forms(chunk_type, id):
+                writer.call("dec feed 65536 %s" % hexed(form + fields + b"\xaa"))
+    writer.end_of_run()
+
+
 def encoder_output(r, writer, scout):
-    parts, longest = packets(r, scout)
-    Feeder(r, writer, longest).feed(parts)
+    parts, room = packets(r, writer, scout)
+    Feeder(r, writer, room).feed(parts)
 
 
 def hand_made(r, writer, _):
@@ -30,12 +44,12 @@ def hand_made(r, writer, _):
 def damaged(r, writer, scout):
     """A good stream with a few bytes changed, left out or put in."""
     if often(r, 50):
-        parts, longest = packets(r, scout)
+        parts, room = packets(r, writer, scout)
     else:
         sender = Sender(r, 5)
-        parts, longest = sender.messages(r.choice([1, 3, 10])), sender.longest
+        parts, room = sender.messages(r.choice([1, 3, 10])), sender.longest
     parts = [(damage(r, data) if often(r, 20) else data, size) for data, size in parts]
-    Feeder(r, writer, longest).feed(parts)
+    Feeder(r, writer, room).feed(parts)
 
 
 def spoilt(r, writer, _):
@@ -65,11 +79,11 @@ def many_streams(r, writer, _):
 
 # What they are made of.
 
-def packets(r, scout):
+def packets(r, writer, scout):
     """What an encoder wrote, any of the droppable packets left out, and the longest payload."""
-    talker = Talker(r)
+    talker = Talker(r, longest(writer))
     scout.start()
-    parts, longest = [], 4
+    parts, room = [], 4
     for _ in range(r.choice([1, 3, 8, 20])):
         change = often(r, 10)
         call = talker.size_change() if change else talker.message()
@@ -78,8 +92,8 @@ def packets(r, scout):
         if packet is None or droppable and often(r, 50):
             continue
         parts.append((packet, talker.size if change else None))
-        longest = max(longest, len(call[1]) // 2)
-    return parts, longest
+        room = max(room, len(call[1]) // 2)
+    return parts, room
 
 
 def damage(r, data):

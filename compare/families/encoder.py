@@ -1,13 +1,18 @@
 """Runs of an encoder: mixes of forced and droppable messages, sizes, and times that go back."""
-from .common import BAD_SIZES, FULL, GOOD_SIZES, HALF, MOST_OUTPUT, ROUND, TIMES, Driver, hexed, often, random_bytes
+import itertools
+
+from .common import BAD_SIZES, FULL, GOOD_SIZES, HALF, MOST_OUTPUT, NEAR, ROUND, TIMES, Driver, chosen, hexed, often, random_bytes
 
 # All five chunk streams are among them, each with more than one type but 4 and 5.
 KINDS = [1, 2, 3, 4, 5, 6, 18, 19, 9, 8, 0, 7, 10, 15, 17, 20, 22, 255]
 STREAMS = [0, 1, 2, 0x01020304, 0xFFFFFFFF]
+FLAGS = [(0, 0), (0, 1), (1, 0), (1, 1)]
 STEPS = [0, 1, 20, 40, FULL - 1, FULL, FULL + 1, HALF, -1, -10, -FULL]
 
 
 def make(r, writer, calls):
+    every_pair_of_times(r, writer, calls // 32)
+    every_size_and_time(r, writer, calls // 64)
     scout = Scout(writer.driver_path)
     while writer.calls < calls:
         run(r, writer, scout)
@@ -15,8 +20,29 @@ def make(r, writer, calls):
     scout.driver.end()
 
 
+def every_pair_of_times(r, writer, most):
+    """Two messages, each with a time near an edge, forced and droppable or not, and one that shows what is remembered."""
+    for first, second, flags, others in chosen(r, list(itertools.product(NEAR, NEAR, FLAGS, FLAGS)), most):
+        length = r.choice([1, 127, 128, 129, 257])
+        writer.call("enc new")
+        for time, (forced, droppable) in ((first, flags), (second, others), ((2 * second - first) % ROUND, (0, 0))):
+            writer.call("enc msg 9 1 %d %d %d %d %s" % (time, forced, droppable, MOST_OUTPUT, hexed(random_bytes(r, length))))
+        writer.end_of_run()
+
+
+def every_size_and_time(r, writer, most):
+    """A size change and a message, sizes and times near the edges; the bad sizes leave the size as it was."""
+    for size, time, (forced, droppable) in chosen(r, list(itertools.product(NEAR, NEAR, FLAGS)), most):
+        payload = hexed(random_bytes(r, r.choice([1, 2, 3, 128, 129, 300])))
+        writer.call("enc new")
+        writer.call("enc size %d %d 64" % (size, time))
+        writer.call("enc msg 9 1 %d %d %d %d %s" % (time, forced, droppable, MOST_OUTPUT, payload))
+        writer.call("enc size %d %d %d" % (r.choice(GOOD_SIZES), r.choice(NEAR), MOST_OUTPUT))
+        writer.end_of_run()
+
+
 def run(r, writer, scout):
-    talker = Talker(r)
+    talker = Talker(r, longest(writer))
     writer.call("enc new")
     scout.start()
     for _ in range(r.choice([2, 3, 5, 10, 30])):
@@ -26,6 +52,11 @@ def run(r, writer, scout):
             writer.call(with_output(talker.message(length=0), r.choice([0, 1, 100])))
         else:
             aimed_call(r, writer, scout, talker.size_change() if often(r, 10) else talker.message())
+
+
+def longest(writer):
+    """A long run also has payloads that fill a line."""
+    return 131000 if writer.is_long else 1000
 
 
 def aimed_call(r, writer, scout, call):
@@ -51,8 +82,8 @@ def with_output(call, out):
 class Talker:
     """Chooses messages as a sender might: a few types, streams, lengths and steps, often repeated."""
 
-    def __init__(self, r):
-        self.r = r
+    def __init__(self, r, longest):
+        self.r, self.longest = r, longest
         self.kinds = r.sample(KINDS + [r.randrange(256)], r.randint(1, 4))
         self.streams = r.sample(STREAMS + [r.randrange(ROUND)], r.randint(1, 2))
         self.time = r.choice(TIMES + [r.randrange(ROUND)])
@@ -75,8 +106,8 @@ class Talker:
         if often(r, 50):
             return self.length
         around = r.choice([1, 1, 2, 3]) * self.size + r.choice([-1, 0, 1])
-        limit = 131000 if often(r, 1) else 2500 if often(r, 20) else 400
-        self.length = max(1, min(limit, r.choice([around, around, r.randint(1, 12)])))
+        limit = self.longest if often(r, 1) else 2500 if often(r, 20) else 400
+        self.length = max(1, min(limit, self.longest, r.choice([around, around, r.randint(1, 12)])))
         return self.length
 
     def message(self, length=None):

@@ -37,13 +37,15 @@ class Sender:
 
     # Headers
 
-    def basic(self, chunk_type, id):
-        """The basic header, in any form that can say the id."""
+    def forms(self, chunk_type, id):
+        """The basic header in every form that can say the id."""
         forms = [bytes([id])] if id < 64 else [b"\1" + (id - 64).to_bytes(2, "little")]
         if 64 <= id < 320:
             forms.append(bytes([0, id - 64]))
-        form = self.r.choice(forms)
-        return bytes([chunk_type << 6 | form[0]]) + form[1:]
+        return [bytes([chunk_type << 6 | form[0]]) + form[1:] for form in forms]
+
+    def basic(self, chunk_type, id):
+        return self.r.choice(self.forms(chunk_type, id))
 
     def full_header(self, id, row):
         """Type 0. The long form of the time may also say a small one."""

@@ -3,10 +3,12 @@
 //!     driver           the original; document 01 decides what is refused
 //!     driver --raw     the original alone, whatever document 01 says of the call
 //!     driver --table   document 01 alone, as read in table.rs
+//!     driver --large   the original, on the longer calls of large.rs
 
 mod answer;
 mod call;
 mod judged;
+mod large;
 mod original;
 mod table;
 
@@ -24,8 +26,9 @@ fn main() {
         "" => replay_with(Judged::new(), Judged::answer),
         "--raw" => replay_with(Original::new(), Original::answer),
         "--table" => replay_with(Table::new(), Table::answer),
+        "--large" => large::replay(),
         _ => {
-            eprintln!("usage: driver [--raw | --table] < SCRIPT");
+            eprintln!("usage: driver [--raw | --table | --large] < SCRIPT");
             exit(2)
         }
     };
