@@ -4,6 +4,7 @@ pub mod Covers
 pub mod Cut
 pub mod Fields
 pub mod Fitting
+pub mod FurtherOn
 pub mod Heading
 pub mod Identifying
 pub mod Naming

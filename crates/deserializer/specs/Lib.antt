@@ -1,6 +1,7 @@
 pub mod Answer
 pub mod Call
 pub mod Chunk
+pub mod Further
 pub mod Head
 pub mod Machine
 pub mod Meaning

@@ -4,6 +4,7 @@ ghost use Prim.Native.Nat.{_≤_, _<_, min};
 ghost use lib.ListN.{length};
 ghost use Rattle.deserializer.specs.Call.{closes as Call·closes, isRefusal, putAt};
 ghost use Rattle.deserializer.specs.Turn.{Keeps, Pays, Turned, changed as Turn·changed};
+use crate::further::further;
 use crate::head::head;
 use crate::head::is_midway;
 use crate::parts::refuse;
@@ -146,8 +147,8 @@ fn stretch(core: Core, rows: &mut [u32; 384], input: &[u8], at: usize, payload: 
     keep(core, rows, stepped, at + n)
 }
 
-// Takes a stretch of a payload, a byte of a header that was cut, or a header from its start.
-pub fn turn(core: Core, rows: &mut [u32; 384], input: &[u8], at: usize, payload: &mut [u8]) -> Moved
+// Takes a stretch of a payload, a byte of a header that was cut, or a header from its start ..
+fn once(core: Core, rows: &mut [u32; 384], input: &[u8], at: usize, payload: &mut [u8]) -> Moved
     requires { ⌜ (core .room ≤ length (now payload)) × (at < length (now input)) ⌝ }
     ensures { λ r. ⌜ Turned core (now (rows .entry)) (now (input .entry)) at (now (payload .entry)) r (now (rows .exit)) (now (payload .exit)) ⌝ }
 {
@@ -167,4 +168,13 @@ pub fn turn(core: Core, rows: &mut [u32; 384], input: &[u8], at: usize, payload:
     let taken = head(core, rows, &input[at..]);
     let stepped = taken.stepped;
     keep(core, rows, stepped, at + taken.length)
+}
+
+// .. and the chunks of the same message that may follow at once.
+pub fn turn(core: Core, rows: &mut [u32; 384], input: &[u8], at: usize, payload: &mut [u8]) -> Moved
+    requires { ⌜ (core .room ≤ length (now payload)) × (at < length (now input)) ⌝ }
+    ensures { λ r. ⌜ Turned core (now (rows .entry)) (now (input .entry)) at (now (payload .entry)) r (now (rows .exit)) (now (payload .exit)) ⌝ }
+{
+    let moved = once(core, rows, input, at, payload);
+    further(moved, rows, input, payload)
 }

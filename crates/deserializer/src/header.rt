@@ -20,14 +20,14 @@ use crate::refusals::later_refusal;
 use chunk_header::HeaderField;
 use chunk_header::field_length;
 
-fn least(a: u32, b: u32) -> u32
+pub fn least(a: u32, b: u32) -> u32
     ensures { λ r. ⌜ r ≡ min a b ⌝ }
 {
     if a < b { a } else { b }
 }
 
 // What a message still lacks.
-fn lacking(length: u32, got: u32) -> u32
+pub fn lacking(length: u32, got: u32) -> u32
     ensures { λ r. ⌜ r ≡ length - got ⌝ }
 {
     if got < length { length - got } else { 0 }

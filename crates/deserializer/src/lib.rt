@@ -7,6 +7,7 @@ ghost use Rattle.deserializer.specs.Told.{between as Told·between, fres
 mod basic;
 mod call;
 mod feed;
+mod further;
 mod head;
 mod header;
 mod parts;
