@@ -210,6 +210,3 @@ stays c rows input payload at r e w = rw e record { on = omega arith; within = w
 pub furthers-chunk : (m r : Moved) (rows input payload payload′ : List ℕ) → m .event ≡ ChunkEnds → Further (whole (m .core) rows) input (m .at) payload r rows payload′
     → Furthers m rows input payload r payload′
 furthers-chunk m r rows input payload payload′ e f = record { on = f .on; within = f .within; room = f .room; runs = (rw e) ∙ f .runs }
-
-pub furthers-not : (m : Moved) (rows input payload : List ℕ) → m .at ≤ length input → Furthers m rows input payload m payload
-furthers-not m rows input payload w = record { on = omega arith; within = w; room = refl; runs = refl }

@@ -1,12 +1,10 @@
 // Further chunks of the unfinished message, of type 3 and whole in the input, taken one after the other.
 ghost use mathlib.Core.Path.{_≡_};
-ghost use Prim.Native.Nat.{_+_, _*_, _-_, _≤_, _<_, min};
+ghost use Prim.Native.Nat.{_+_, _*_, _≤_, _<_};
 ghost use lib.Dec.{leb};
-ghost use lib.ListN.{drop, getD, length, take};
-ghost use lib.Seq.{sets};
-ghost use Rattle.deserializer.specs.Further.{Begins, Chunks, Further, Furthers, Next, Stops, staying, gone as Further·gone};
-ghost use Rattle.deserializer.specs.Rows.{putRow};
-ghost use Rattle.deserializer.specs.Turn.{follows, whole};
+ghost use lib.ListN.{getD, length};
+ghost use Rattle.deserializer.specs.Further.{Begins, Chunks, Further, Furthers, Next, Stops, gone as Further·gone, staying};
+ghost use Rattle.deserializer.specs.Turn.{whole};
 use crate::call::Core;
 use crate::call::Moved;
 use crate::head::is_midway;
