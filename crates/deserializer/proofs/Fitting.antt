@@ -87,9 +87,9 @@ fits-same room L L′ r e f = record {
 
 -- what a step leaves: the length is that of the row it puts, if it puts one
 pub record Fitting (room L m : ℕ) (s : Stepped) : Type 0 where
-  pub fits : Fits room (cond (ltb (s .place) 64) (s .row .«message_length») L) (s .reader)
+  pub fits : Fits room (cond (ltb (s .place) 64) (s .reader .chunk .header .«message_length») L) (s .reader)
   pub same : ltb (s .place) 64 ≡ false → s .reader .message .id ≢ 0 → s .reader .message .id ≡ m
-  pub own : ltb (s .place) 64 ≡ true → s .reader .message .id ≢ 0 → s .reader .message .id ≡ s .row .id
+  pub own : ltb (s .place) 64 ≡ true → s .reader .message .id ≢ 0 → s .reader .message .id ≡ s .reader .chunk .header .id
   pub guard : s .event ≢ Refuse 255
 
 -- a reader in such a payload passes the guard
@@ -529,22 +529,22 @@ find-distinct rows id p d h n e =
 
 -- so the length that a step leaves is the one in the table
 pub fitting-fits : (room : ℕ) (rows : List ℕ) (m : ℕ) (s : Stepped) → length rows ≡ 384 → Leaves rows s → Fitting room (lengthOf rows m) m s
-    → Fits room (lengthOf (putAt rows (s .place) (s .row)) (s .reader .message .id)) (s .reader)
+    → Fits room (lengthOf (putAt rows (s .place) (s .reader .chunk .header)) (s .reader .message .id)) (s .reader)
 fitting-fits room rows m s l = by-cases (ltb (s .place) 64) refl
   where
     by-cases : (t : Bool) → ltb (s .place) 64 ≡ t → Leaves rows s → Fitting room (lengthOf rows m) m s
-        → Fits room (lengthOf (putAt rows (s .place) (s .row)) (s .reader .message .id)) (s .reader)
+        → Fits room (lengthOf (putAt rows (s .place) (s .reader .chunk .header)) (s .reader .message .id)) (s .reader)
     by-cases true e k f =
         let h = ltb-true (s .place) 64 e in
-        let rows′ = putRow rows (s .place) (s .row) in
+        let rows′ = putRow rows (s .place) (s .reader .chunk .header) in
         let d : Distinct rows′ = rw e at (k .distinct) in
-        let g : Fits room (s .row .«message_length») (s .reader) = rw e at (f .fits) in
-        rw e (fits-same room (s .row .«message_length») (lengthOf rows′ (s .reader .message .id)) (s .reader)
+        let g : Fits room (s .reader .chunk .header .«message_length») (s .reader) = rw e at (f .fits) in
+        rw e (fits-same room (s .reader .chunk .header .«message_length») (lengthOf rows′ (s .reader .message .id)) (s .reader)
         (λ n.
         let own = f .own e n in
-        let here = id-put rows (s .place) (s .row) l h ∙ sym own in
+        let here = id-put rows (s .place) (s .reader .chunk .header) l h ∙ sym own in
         let at-place : find rows′ (s .reader .message .id) ≡ s .place = find-distinct rows′ (s .reader .message .id) (s .place) d h n here in
-        rw at-place (sym (put-number rows (s .place) 3 (s .row) l h (omega arith)))) g)
+        rw at-place (sym (put-number rows (s .place) 3 (s .reader .chunk .header) l h (omega arith)))) g)
     by-cases false e k f =
         let g : Fits room (lengthOf rows m) (s .reader) = rw e at (f .fits) in
         rw e (fits-same room (lengthOf rows m) (lengthOf rows (s .reader .message .id)) (s .reader) (λ n. rw (f .same e n)) g)

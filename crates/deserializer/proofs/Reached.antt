@@ -48,7 +48,7 @@ step-reached d b k =
     }
   where
     rows-after : Bool → List ℕ
-    rows-after t = cond t (d .rows) (putAt (d .rows) (stepOf d b .place) (stepOf d b .row))
+    rows-after t = cond t (d .rows) (putAt (d .rows) (stepOf d b .place) (stepOf d b .reader .chunk .header))
 
     reader-after : Bool → Reader
     reader-after t = cond t (d .reader) (stepOf d b .reader)

@@ -83,7 +83,6 @@ module _ (d : ChunkDeserializer) (c : Chunk) where
         reader = reader Csid (current (formatFor (c .header)) (placeOf (d .rows) (c .id)) (row d c) (stored d c) 0) (cond goes-on (unfinished (stored d c .id) done) (unfinished 0 0));
         event = cond goes-on ChunkEnds Message;
         place = placeOf (d .rows) (c .id);
-        row = stored d c;
       }
 
   -- a chunk of a message that lacks a byte ends within the room

@@ -86,28 +86,28 @@ put-found rows p r id l h same f = by-cases (eqb p (find rows id)) refl
 pub record Stays (rows : List ℕ) (place id : ℕ) (s : Stepped) : Type 0 where
   pub same-place : s .reader .chunk .place ≡ place
   pub same-id : s .reader .chunk .header .id ≡ id
-  pub puts : s .place < 64 → (s .place ≡ place) × (s .row .id ≡ id)
+  pub puts : s .place < 64 → (s .place ≡ place) × (s .reader .chunk .header .id ≡ id)
   pub begun : HasRow rows (s .reader .message .id)
 
 -- such a step leaves the table sound
 stays-sound : (rows : List ℕ) (place id : ℕ) (s : Stepped) → length rows ≡ 384 → Distinct rows → Owns rows place id → Stays rows place id s
-    → Sound (putAt rows (s .place) (s .row)) (s .reader)
+    → Sound (putAt rows (s .place) (s .reader .chunk .header)) (s .reader)
 stays-sound rows place id s l d o k = by-cases (ltb (s .place) 64) refl
   where
-    by-cases : (t : Bool) → ltb (s .place) 64 ≡ t → Sound (cond t (putRow rows (s .place) (s .row)) rows) (s .reader)
+    by-cases : (t : Bool) → ltb (s .place) 64 ≡ t → Sound (cond t (putRow rows (s .place) (s .reader .chunk .header)) rows) (s .reader)
     by-cases true e =
         let h = ltb-true (s .place) 64 e in
         let p = k .puts h .0 in
         let q = k .puts h .1 in
-        let own : getD rows (6 * s .place) 0 ≡ s .row .id = (rw p (o .own)) ∙ sym q in
-        let used : s .row .id ≢ 0 = rw q (o .used) in
-        let there : getD (putRow rows (s .place) (s .row)) (6 * s .reader .chunk .place) 0 ≡ s .reader .chunk .header .id =
-        rw (k .same-place, ← p, k .same-id, ← q) (id-put rows (s .place) (s .row) l h)
+        let own : getD rows (6 * s .place) 0 ≡ s .reader .chunk .header .id = (rw p (o .own)) ∙ sym q in
+        let used : s .reader .chunk .header .id ≢ 0 = rw q (o .used) in
+        let there : getD (putRow rows (s .place) (s .reader .chunk .header)) (6 * s .reader .chunk .place) 0 ≡ s .reader .chunk .header .id =
+        rw (k .same-place, ← p, k .same-id, ← q) (id-put rows (s .place) (s .reader .chunk .header) l h)
         in
         record {
-          long = length-putRow rows (s .place) (s .row) ∙ l;
-          distinct = distinct-put rows (s .place) (s .row) l h d (alone-there rows (s .row .id) (s .place) d h used own);
-          begun = λ n. put-found rows (s .place) (s .row) (s .reader .message .id) l h (λ f. sym own ∙ f) (k .begun n);
+          long = length-putRow rows (s .place) (s .reader .chunk .header) ∙ l;
+          distinct = distinct-put rows (s .place) (s .reader .chunk .header) l h d (alone-there rows (s .reader .chunk .header .id) (s .place) d h used own);
+          begun = λ n. put-found rows (s .place) (s .reader .chunk .header) (s .reader .message .id) l h (λ f. sym own ∙ f) (k .begun n);
           owns = λ z. record { inside = rw (k .same-place) (o .inside); own = there; used = rw (k .same-id) (o .used) };
         }
     by-cases false e = record {
@@ -240,7 +240,7 @@ claims-free format unused inside own n h = by-cases (isFull format) (isEmpty for
 
 -- a step leaves a sound table
 abbrev pub Leaves : List ℕ → Stepped → Type 0
-Leaves rows s = Sound (putAt rows (s .place) (s .row)) (s .reader)
+Leaves rows s = Sound (putAt rows (s .place) (s .reader .chunk .header)) (s .reader)
 
 -- a reader that waits for more of a basic header asks only for the row of its message
 waits-sound : (rows : List ℕ) (r r′ : Reader) → past (r′ .stage) ≡ false → r′ .message .id ≡ r .message .id → Sound rows r → Sound rows r′

@@ -25,7 +25,7 @@ stepOf d b =
 unfoldable pub writes : ChunkDeserializer → List ℕ → ℕ → List ℕ
 writes d payload b = cond (inPayload (d .reader .stage)) (cond (pays (d .room) (d .reader)) (set payload (d .reader .message .got) b) payload) payload
 
--- a row is put where the step says one
+-- the header so far is put in the row where the step says one
 abbrev pub putAt : List ℕ → ℕ → Row → List ℕ
 putAt rows place row = cond (ltb place 64) (putRow rows place row) rows
 
@@ -50,7 +50,7 @@ after d s = record {
   «max_chunk_size» = d .«max_chunk_size»;
   closed = closes (s .event) (d .closed);
   reader = cond (isRefusal (s .event)) (d .reader) (s .reader);
-  rows = cond (isRefusal (s .event)) (d .rows) (putAt (d .rows) (s .place) (s .row));
+  rows = cond (isRefusal (s .event)) (d .rows) (putAt (d .rows) (s .place) (s .reader .chunk .header));
 }
 
 -- the answer, the decoder and the payload buffer after a call

@@ -38,19 +38,19 @@ at r stage = reader stage (r .chunk) (r .message)
 abbrev pub headed : Reader → Row → Reader
 headed r h = reader (r .stage) (current (r .chunk .format) (r .chunk .place) (r .chunk .before) h (r .chunk .left)) (r .message)
 
--- a byte that only goes on; one that is refused, of which only the number is kept
+-- a byte that only goes on; one that is refused, of which only the number is kept. No row is put at place 64
 abbrev pub go : Reader → Stepped
-go r = record { reader = r; event = Go; place = 64; row = r .chunk .header }
+go r = record { reader = r; event = Go; place = 64 }
 
 abbrev pub refuse : Reader → ℕ → Stepped
-refuse r n = record { reader = r; event = Refuse n; place = 64; row = r .chunk .header }
+refuse r n = record { reader = r; event = Refuse n; place = 64 }
 
 -- a message that ends, and a chunk that ends before its message does: the header is stored in its row
 abbrev pub ended : Reader → Stepped
-ended r = record { reader = reader AtCsid (r .chunk) (unfinished 0 0); event = Message; place = r .chunk .place; row = r .chunk .header }
+ended r = record { reader = reader AtCsid (r .chunk) (unfinished 0 0); event = Message; place = r .chunk .place }
 
 abbrev pub paused : Reader → ℕ → Stepped
-paused r got = record { reader = reader AtCsid (r .chunk) (unfinished (r .chunk .header .id) got); event = Chunk; place = r .chunk .place; row = r .chunk .header }
+paused r got = record { reader = reader AtCsid (r .chunk) (unfinished (r .chunk .header .id) got); event = Chunk; place = r .chunk .place }
 
 -- the payload of a chunk: "the smaller of the chunk size and what the message still lacks". A message of no bytes ends here
 unfoldable pub opens : ℕ → Reader → ℕ → Stepped
@@ -98,7 +98,6 @@ claims r format id place = record {
   reader = reader (InitialTimestamp 0 3) (current format place (claimed id) (claimed id) 0) (r .message);
   event = Go;
   place = place;
-  row = claimed id;
 }
 
 -- the last byte of a basic header

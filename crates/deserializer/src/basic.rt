@@ -88,7 +88,6 @@ fn claims(reader: Reader, format: ChunkHeaderFormat, id: u32, place: usize) -> S
         },
         event: Event::Go,
         place: place,
-        row: row,
     }
 }
 

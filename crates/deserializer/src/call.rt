@@ -111,9 +111,10 @@ fn keep(core: Core, rows: &mut [u32; 384], stepped: Stepped, at: usize) -> Moved
             at: at,
         };
     }
-    let row = stepped.row;
-    put_at(rows, stepped.place, row);
     let reader = stepped.reader;
+    let chunk = reader.chunk;
+    let header = chunk.header;
+    put_at(rows, stepped.place, header);
     Moved {
         core: changed(core, closed, reader),
         event: event,

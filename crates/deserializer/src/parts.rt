@@ -96,13 +96,10 @@ pub fn headed(reader: Reader, header: Row) -> Reader
 pub fn go(reader: Reader) -> Stepped
     ensures { λ r. ⌜ r ≡ Machine·go reader ⌝ }
 {
-    let chunk = reader.chunk;
-    let header = chunk.header;
     Stepped {
         reader: reader,
         event: Event::Go,
         place: ROWS,
-        row: header,
     }
 }
 
@@ -110,13 +107,10 @@ pub fn go(reader: Reader) -> Stepped
 pub fn refuse(reader: Reader, number: u8) -> Stepped
     ensures { λ r. ⌜ r ≡ Machine·refuse reader number ⌝ }
 {
-    let chunk = reader.chunk;
-    let header = chunk.header;
     Stepped {
         reader: reader,
         event: Event::Refuse(number),
         place: ROWS,
-        row: header,
     }
 }
 
@@ -125,7 +119,6 @@ pub fn ended(reader: Reader) -> Stepped
     ensures { λ r. ⌜ r ≡ Machine·ended reader ⌝ }
 {
     let chunk = reader.chunk;
-    let header = chunk.header;
     Stepped {
         reader: Reader {
             stage: Stage::Csid,
@@ -134,7 +127,6 @@ pub fn ended(reader: Reader) -> Stepped
         },
         event: Event::Message,
         place: chunk.place,
-        row: header,
     }
 }
 
@@ -155,6 +147,5 @@ pub fn paused(reader: Reader, got: u32) -> Stepped
         },
         event: Event::Chunk,
         place: chunk.place,
-        row: header,
     }
 }

@@ -45,10 +45,9 @@ pub enum Event {
     Refuse(u8),
 }
 
-// What a byte does: the next reader, the event, and the row that is put at a place; 64: none is.
+// What a byte does: the next reader, the event, and the place at which its header becomes a row; 64: none does.
 pub struct Stepped {
     pub reader: Reader,
     pub event: Event,
     pub place: usize,
-    pub row: Row,
 }

@@ -33,12 +33,12 @@ changed-requires-2 c κs = search needs
 returns-2 : tie.Need-returns-2
 unfolding after
 returns-2 c =
-    let e = sym (c .before .before .before .before .before .before .is-refusal .ensures) ∙ c .before .before .before .before .before .if1 .left in
+    let e = sym (c .before .before .before .before .before .before .before .is-refusal .ensures) ∙ c .before .before .before .before .before .before .if1 .left in
     record {
       place = refl;
       event = refl;
       room = rw (c .changed2 .ensures);
-      state = rw (c .changed2 .ensures, c .before .before .before .before .before .before .before .closes .ensures, e, c .before .before .put-at .ensures);
+      state = rw (c .changed2 .ensures, c .before .before .before .before .before .before .before .before .closes .ensures, e, c .before .put-at .ensures);
     }
 
 pub keep-spec : {M : Type 1} → statement M
