@@ -7,6 +7,7 @@ ghost use Rattle.deserializer.specs.Turn.{Keeps, Pays, Turned, changed a
 use crate::further::further;
 use crate::head::head;
 use crate::head::is_midway;
+use crate::numbers::wide;
 use crate::parts::refuse;
 use crate::payload::in_payload;
 use crate::payload::landed;
@@ -126,12 +127,6 @@ fn least(a: usize, b: usize) -> usize
     ensures { λ r. ⌜ r ≡ min a b ⌝ }
 {
     if a < b { a } else { b }
-}
-
-fn wide(x: u32) -> usize
-    ensures { λ r. ⌜ r ≡ x ⌝ }
-{
-    x as usize
 }
 
 // Takes as many bytes of a payload as there are.

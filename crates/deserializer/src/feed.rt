@@ -8,6 +8,7 @@ ghost use Rattle.deserializer.specs.Turn.{whole};
 use crate::call::Answer;
 use crate::call::Core;
 use crate::call::turn;
+use crate::numbers::wide;
 use crate::reader::Event;
 use crate::reader::Reader;
 
@@ -30,12 +31,6 @@ fn handed(reader: Reader, used: usize) -> Answer
         length: header.message_length,
         used: used,
     }
-}
-
-fn wide(x: u32) -> usize
-    ensures { λ r. ⌜ r ≡ x ⌝ }
-{
-    x as usize
 }
 
 fn refused(number: u8, used: usize) -> Answer

@@ -8,8 +8,9 @@ ghost use Rattle.deserializer.specs.Turn.{whole};
 use crate::call::Core;
 use crate::call::Moved;
 use crate::head::is_midway;
-use crate::header::lacking;
-use crate::header::least;
+use crate::numbers::lacking;
+use crate::numbers::least;
+use crate::numbers::wide;
 use crate::reader::Current;
 use crate::reader::Event;
 use crate::reader::Reader;
@@ -22,12 +23,6 @@ use crate::rows::find;
 use crate::rows::row_at;
 use chunk_header::ChunkHeaderFormat;
 use fields::put_bytes;
-
-fn wide(x: u32) -> usize
-    ensures { λ r. ⌜ r ≡ x ⌝ }
-{
-    x as usize
-}
 
 // The decoder after such a chunk: so many bytes of the message have come.
 fn gone(core: Core, place: usize, row: Row, got: u32) -> Core

@@ -1,7 +1,8 @@
 // The fields of a header in their order, and what is settled when it is whole.
 ghost use mathlib.Core.Path.{_≡_};
-ghost use Prim.Native.Nat.{_-_, min};
 ghost use Rattle.deserializer.specs.Machine.{extendedNext, lengthNext, opens as Machine·opens, streamNext, timestampNext, typeNext, whole as Machine·whole};
+use crate::numbers::lacking;
+use crate::numbers::least;
 use crate::parts::at;
 use crate::parts::ended;
 use crate::parts::go;
@@ -19,19 +20,6 @@ use crate::refusals::first_time;
 use crate::refusals::later_refusal;
 use chunk_header::HeaderField;
 use chunk_header::field_length;
-
-pub fn least(a: u32, b: u32) -> u32
-    ensures { λ r. ⌜ r ≡ min a b ⌝ }
-{
-    if a < b { a } else { b }
-}
-
-// What a message still lacks.
-pub fn lacking(length: u32, got: u32) -> u32
-    ensures { λ r. ⌜ r ≡ length - got ⌝ }
-{
-    if got < length { length - got } else { 0 }
-}
 
 // The payload of a chunk. A message of no bytes ends here.
 pub fn opens(size: u32, reader: Reader, got: u32) -> Stepped

@@ -10,6 +10,7 @@ mod feed;
 mod further;
 mod head;
 mod header;
+mod numbers;
 mod parts;
 mod payload;
 mod reader;
@@ -20,6 +21,7 @@ mod step;
 pub use crate::call::Answer;
 use crate::call::Core;
 use crate::feed::feed;
+use crate::head::is_midway;
 use crate::reader::Current;
 use crate::reader::Reader;
 use crate::reader::Stage;
@@ -99,17 +101,10 @@ fn between(reader: Reader) -> bool
 {
     let stage = reader.stage;
     let message = reader.message;
-    match stage {
-        Stage::Csid => message.id == 0,
-        Stage::CsidSecond(_) => false,
-        Stage::CsidThird(_, _) => false,
-        Stage::InitialTimestamp(_, _) => false,
-        Stage::MessageLength(_, _) => false,
-        Stage::MessageTypeId => false,
-        Stage::MessageStreamId(_, _) => false,
-        Stage::ExtendedTimestamp(_, _) => false,
-        Stage::MessagePayload => false,
+    if is_midway(stage) {
+        return false;
     }
+    message.id == 0
 }
 
 fn refuse(deserializer: ChunkDeserializer, number: u8) -> Told

@@ -1,81 +1,34 @@
--- Only before the first byte of a chunk can nothing have come.
+-- In the middle of a chunk something has come; before one, it is the unfinished message's.
+use Prim.Native.Nat.{ℕ}
+use mathlib.Core.Bool.{Bool, true, false, not, _&&_}
+use mathlib.Core.Path.{_≡_, refl, sym, _∙_}
+use lib.Dec.{eqb}
+use native.Mathlib.Omega.{arith}
 use borrow.Author.Needs.{needs}
+use Rattle.deserializer.specs.Told.{atStart}
 use Rattle.deserializer.proofs.between.Statement.{statement}
 use Rattle.deserializer.proofs.between.Tie as tie
 
-enum-told : tie.Need-enum-told
-enum-told c = search needs
+is-midway-requires : tie.Need-is-midway-requires
+is-midway-requires c κs = search needs
 
-enum-told-2 : tie.Need-enum-told-2
-enum-told-2 c = search needs
+not-both : (a b : Bool) → not a ≡ true → false ≡ a && b
+not-both false b e = refl
+not-both true b e = absurd (let z : _≡_ {A = ℕ} 0 1 = cc in omega arith)
 
-enum-told-3 : tie.Need-enum-told-3
-enum-told-3 c = search needs
-
-enum-told-4 : tie.Need-enum-told-4
-enum-told-4 c = search needs
-
-enum-told-5 : tie.Need-enum-told-5
-enum-told-5 c = search needs
-
-enum-told-6 : tie.Need-enum-told-6
-enum-told-6 c = search needs
-
-enum-told-7 : tie.Need-enum-told-7
-enum-told-7 c = search needs
-
-enum-told-8 : tie.Need-enum-told-8
-enum-told-8 c = search needs
-
-enum-told-9 : tie.Need-enum-told-9
-enum-told-9 c = search needs
+the-other : (a b : Bool) → not a ≡ false → b ≡ a && b
+the-other true b e = refl
+the-other false b e = absurd (let z : _≡_ {A = ℕ} 0 1 = cc in omega arith)
 
 returns : tie.Need-returns
-returns c = simp (c .before .enum-told .given .1)
+returns c =
+    let r = c .before .before .before .args .reader in
+    not-both (atStart (r .stage)) (eqb (r .message .id) 0) (sym (c .before .is-midway .ensures) ∙ c .if1 .taken)
 
 returns-2 : tie.Need-returns-2
-returns-2 c = search needs
-
-returns-3 : tie.Need-returns-3
-returns-3 c = search needs
-
-returns-4 : tie.Need-returns-4
-returns-4 c = search needs
-
-returns-5 : tie.Need-returns-5
-returns-5 c = search needs
-
-returns-6 : tie.Need-returns-6
-returns-6 c = search needs
-
-returns-7 : tie.Need-returns-7
-returns-7 c = search needs
-
-returns-8 : tie.Need-returns-8
-returns-8 c = search needs
-
-returns-9 : tie.Need-returns-9
-returns-9 c = search needs
+returns-2 c =
+    let r = c .before .before .before .before .args .reader in
+    the-other (atStart (r .stage)) (eqb (r .message .id) 0) (sym (c .before .before .is-midway .ensures) ∙ c .before .if1 .left)
 
 pub between-spec : {M : Type 1} → statement M
-between-spec =
-    tie.close
-    (tie.spec
-    enum-told
-    enum-told-2
-    enum-told-3
-    enum-told-4
-    enum-told-5
-    enum-told-6
-    enum-told-7
-    enum-told-8
-    enum-told-9
-    returns
-    returns-2
-    returns-3
-    returns-4
-    returns-5
-    returns-6
-    returns-7
-    returns-8
-    returns-9)
+between-spec = tie.close (tie.spec is-midway-requires returns returns-2)
