@@ -17,4 +17,5 @@ pub mod Runs
 pub mod Sound
 pub mod Table
 pub mod Turning
+pub mod Unique
 pub mod Written

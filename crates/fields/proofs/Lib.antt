@@ -1,3 +1,4 @@
+pub mod Deciding
 pub mod Endian
 pub mod Lists
 pub mod Table

@@ -5,3 +5,4 @@ pub mod PacketLength
 pub mod Pieces
 pub mod Stream
 pub mod Sent
+pub mod Unique

@@ -1,11 +1,12 @@
--- A listed answer comes from one value alone, since that value can be told from it: so every promise here decides its answer.
+-- Both listings decide their answers, since these can be told from them.
 use Prim.Native.Nat.{ℕ}
-use mathlib.Core.Path.{_≡_, refl, sym, ap, _∙_}
+use mathlib.Core.Path.{_≡_, refl}
 use mathlib.Core.Bool.{cond}
 use mathlib.Core.List.{List, [], _∷_}
-use native.Mathlib.Omega.{arith}
 use lib.Dec.{eqb}
 use lib.ListN.{getD}
+use Rattle.fields.specs.Deciding.{Decides}
+use Rattle.fields.proofs.Deciding.{told-decides}
 use Rattle.user_control.specs.declared.UserControlEvent.{UserControlEvent}
 use Rattle.user_control.specs.declared.UserControlEvent.the-variants.{
   StreamBegin,
@@ -59,11 +60,18 @@ read-back (Event e) = told-read e
 read-back BodyTooShort = refl
 read-back UnknownCode = refl
 
-pub read-unique : (a b : Deserialized) → readAnswer a ≡ readAnswer b → a ≡ b
-read-unique a b h = sym (read-back a) ∙ ap read h ∙ read-back b
+pub read-decides : Decides readAnswer
+read-decides = told-decides readAnswer read read-back
 
-pub write-unique : (a b : Serialized) → writeAnswer a ≡ writeAnswer b → a ≡ b
-write-unique (Written m) (Written n) h = let e : m ≡ n = cc in ap Written e
-write-unique (Written m) OutputTooShort h = absurd (let z : _≡_ {A = ℕ} 0 1 = cc in omega arith)
-write-unique OutputTooShort (Written n) h = absurd (let z : _≡_ {A = ℕ} 0 1 = cc in omega arith)
-write-unique OutputTooShort OutputTooShort h = refl
+-- what was written
+abbrev written : Answer → Serialized
+written (event c ns) = OutputTooShort
+written (wrote n) = Written n
+written (refused k) = OutputTooShort
+
+written-back : (r : Serialized) → written (writeAnswer r) ≡ r
+written-back (Written n) = refl
+written-back OutputTooShort = refl
+
+pub write-decides : Decides writeAnswer
+write-decides = told-decides writeAnswer written written-back
