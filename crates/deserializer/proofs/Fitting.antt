@@ -376,8 +376,8 @@ module _ (room size L : ℕ) (some : 0 < size) where
       go-fits r′ (record {
         got = λ n. let own = k .own n in omega arith;
         room-for = f .room-for;
-        later = λ q n. let l = f .later (in-payload-past (r .stage) p) n in record { before = l .before; empty = l .empty; short = l .short };
-        full = λ q n. never q;
+        later = λ q n. let l = f .later q n in record { before = l .before; empty = l .empty; short = l .short };
+        full = f .full;
         paying = λ q. record { some = omega arith; ends = omega arith; fits = fits; own = k .own };
       }))
 

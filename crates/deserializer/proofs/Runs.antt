@@ -103,7 +103,7 @@ bulk (x ∷ y ∷ xs) rest d payload n s h k r =
     let e : n + 1 + length (y ∷ xs) ≡ n + length (x ∷ y ∷ xs) = omega arith in
     run-payload x (y ∷ xs ++ rest) d payload n s (pays-is (d .room) (d .reader) (omega arith) r)
     ∙ (rw (landed-first (d .reader) (omega arith)))
-    ∙ bulk (y ∷ xs) rest (holding d (nearer (d .reader))) (set payload (d .reader .message .got) x) (n + 1) refl (omega arith) (omega arith) (omega arith)
+    ∙ bulk (y ∷ xs) rest (holding d (nearer (d .reader))) (set payload (d .reader .message .got) x) (n + 1) s (omega arith) (omega arith) (omega arith)
     ∙ held-forgotten d (nearer (d .reader)) (landed (nearer (d .reader)) (length (y ∷ xs))) _ _ rest (landed-not-refused (nearer (d .reader)) (length (y ∷ xs)))
     ∙ (rw (landed-next (d .reader) (length (y ∷ xs)), e, add-one))
 

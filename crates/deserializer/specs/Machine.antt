@@ -180,7 +180,7 @@ pays room r = not (eqb (r .chunk .left) 0) && leb (r .message .got + r .chunk .l
 abbrev pub paid : Reader → ℕ → ℕ → Reader
 paid r got left =
     let c = r .chunk in
-    reader MessagePayload (current (c .format) (c .place) (c .before) (c .header) left) (unfinished (r .message .id) got)
+    reader (r .stage) (current (c .format) (c .place) (c .before) (c .header) left) (unfinished (r .message .id) got)
 
 -- a reader that has just taken payload: in its chunk still, between chunks, or at its message's end
 abbrev pub settle : Reader → Stepped

@@ -104,13 +104,13 @@ fn named(
 {
     let place = find(rows, id);
     let unused = find(rows, 0);
-    let message = reader.message;
+    let unfinished = reader.message.id;
     let k = basic_refusal(
         format,
         place < ROWS,
         unused < ROWS,
-        message.id != 0,
-        message.id == id,
+        unfinished != 0,
+        unfinished == id,
     );
     if k != 0 {
         return refuse(reader, k);

@@ -105,19 +105,15 @@ fn keep(core: Core, rows: &mut [u32; 384], stepped: Stepped, at: usize) -> Moved
     let event = stepped.event;
     let closed = closes(event, core.closed);
     if is_refusal(event) {
-        let before = core.reader;
         return Moved {
-            core: changed(core, closed, before),
+            core: changed(core, closed, core.reader),
             event: event,
             at: at,
         };
     }
-    let reader = stepped.reader;
-    let chunk = reader.chunk;
-    let header = chunk.header;
-    put_at(rows, stepped.place, header);
+    put_at(rows, stepped.place, stepped.reader.chunk.header);
     Moved {
-        core: changed(core, closed, reader),
+        core: changed(core, closed, stepped.reader),
         event: event,
         at: at,
     }
@@ -134,13 +130,9 @@ fn stretch(core: Core, rows: &mut [u32; 384], input: &[u8], at: usize, payload: 
     requires { ⌜ Pays core (now input) at (now payload) ⌝ }
     ensures { λ r. ⌜ Turned core (now (rows .entry)) (now (input .entry)) at (now (payload .entry)) r (now (rows .exit)) (now (payload .exit)) ⌝ }
 {
-    let reader = core.reader;
-    let chunk = reader.chunk;
-    let message = reader.message;
-    let n = least(input.len() - at, wide(chunk.left));
-    put_bytes(&input[at..at + n], payload, wide(message.got));
-    let stepped = landed(reader, n as u32);
-    keep(core, rows, stepped, at + n)
+    let n = least(input.len() - at, wide(core.reader.chunk.left));
+    put_bytes(&input[at..at + n], payload, wide(core.reader.message.got));
+    keep(core, rows, landed(core.reader, n as u32), at + n)
 }
 
 // Takes a stretch of a payload, a byte of a header that was cut, or a header from its start ..
@@ -154,16 +146,14 @@ fn once(core: Core, rows: &mut [u32; 384], input: &[u8], at: usize, payload: &mu
         if pays(core.room, reader) {
             return stretch(core, rows, input, at, payload);
         }
-        let stepped = refuse(reader, 255);
-        return keep(core, rows, stepped, at + 1);
+        return keep(core, rows, refuse(reader, 255), at + 1);
     }
     if is_midway(stage) {
         let stepped = step(core.room, core.max_chunk_size, rows, reader, input[at]);
         return keep(core, rows, stepped, at + 1);
     }
     let taken = head(core, rows, &input[at..]);
-    let stepped = taken.stepped;
-    keep(core, rows, stepped, at + taken.length)
+    keep(core, rows, taken.stepped, at + taken.length)
 }
 
 // .. and the chunks of the same message that may follow at once.

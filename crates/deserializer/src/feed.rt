@@ -21,8 +21,7 @@ pub struct Fed {
 fn handed(reader: Reader, used: usize) -> Answer
     ensures { λ r. ⌜ answerOf r ≡ read reader used ⌝ }
 {
-    let chunk = reader.chunk;
-    let header = chunk.header;
+    let header = reader.chunk.header;
     let timestamp = header.timestamp;
     Answer::Message {
         type_id: header.message_type_id,
@@ -59,10 +58,9 @@ fn turns(core: Core, rows: &mut [u32; 384], input: &[u8], payload: &mut [u8]) ->
             Event::Go => {}
             Event::Chunk => {}
             Event::Message => {
-                let reader = next.reader;
                 return Fed {
                     core: next,
-                    answer: handed(reader, at),
+                    answer: handed(next.reader, at),
                 };
             }
             Event::Refuse(number) => {
@@ -83,11 +81,10 @@ fn turns(core: Core, rows: &mut [u32; 384], input: &[u8], payload: &mut [u8]) ->
 pub fn feed(core: Core, rows: &mut [u32; 384], input: &[u8], payload: &mut [u8]) -> Fed
     ensures { λ r. ⌜ outcome (answerOf (r .answer)) (whole (r .core) (now (rows .exit))) (now (payload .exit)) ≡ next (whole core (now (rows .entry))) (now (input .entry)) (now (payload .entry)) ⌝ }
 {
-    let closed = core.closed;
-    if closed != 0 {
+    if core.closed != 0 {
         return Fed {
             core: core,
-            answer: refused(closed, 0),
+            answer: refused(core.closed, 0),
         };
     }
     let room = wide(core.room);

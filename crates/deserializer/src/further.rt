@@ -85,14 +85,9 @@ fn take_chunk(
     requires { ⌜ (Next (now input) at (row .id) (core .reader .message .got) (row .«message_length») left) × (row .«message_length» ≤ length (now payload)) ⌝ }
     ensures { λ r. ⌜ Chunks core place row left (now (input .entry)) at (now (payload .entry)) r (now (payload .exit)) ⌝ }
 {
-    let reader = core.reader;
-    let message = reader.message;
-    put_bytes(
-        &input[at + 1..at + 1 + wide(left)],
-        payload,
-        wide(message.got),
-    );
-    gone(core, place, row, message.got + left)
+    let got = core.reader.message.got;
+    put_bytes(&input[at + 1..at + 1 + wide(left)], payload, wide(got));
+    gone(core, place, row, got + left)
 }
 
 // Takes such chunks as long as there are any.
@@ -111,17 +106,9 @@ fn chunks(
     let mut now = core;
     let mut place_in = at;
     while place_in < input.len() {
-        let reader = now.reader;
-        let message = reader.message;
-        let left = least(now.max_chunk_size, lacking(row.message_length, message.got));
-        if stops(
-            input,
-            place_in,
-            row.id,
-            message.got,
-            row.message_length,
-            left,
-        ) {
+        let got = now.reader.message.got;
+        let left = least(now.max_chunk_size, lacking(row.message_length, got));
+        if stops(input, place_in, row.id, got, row.message_length, left) {
             return Moved {
                 core: now,
                 event: Event::Chunk,
@@ -164,17 +151,17 @@ fn after_chunk(core: Core, rows: &[u32; 384], input: &[u8], at: usize, payload: 
 {
     let reader = core.reader;
     let stage = reader.stage;
-    let message = reader.message;
+    let id = reader.message.id;
     if is_midway(stage) {
         return stay(core, at);
     }
-    if message.id < 2 {
+    if id < 2 {
         return stay(core, at);
     }
-    if 63 < message.id {
+    if 63 < id {
         return stay(core, at);
     }
-    let place = find(rows, message.id);
+    let place = find(rows, id);
     if ROWS <= place {
         return stay(core, at);
     }
@@ -196,11 +183,10 @@ pub fn further(moved: Moved, rows: &[u32; 384], input: &[u8], payload: &mut [u8]
     requires { ⌜ (moved .at ≤ length (now input)) × (moved .core .room ≤ length (now payload)) ⌝ }
     ensures { λ r. ⌜ Furthers moved (now (rows .entry)) (now (input .entry)) (now (payload .entry)) r (now (payload .exit)) ⌝ }
 {
-    let core = moved.core;
     let event = moved.event;
     match event {
         Event::Go => moved,
-        Event::Chunk => after_chunk(core, rows, input, moved.at, payload),
+        Event::Chunk => after_chunk(moved.core, rows, input, moved.at, payload),
         Event::Message => moved,
         Event::Refuse(_) => moved,
     }

@@ -153,15 +153,13 @@ fn settled(
 ) -> Stepped
     ensures { λ r. ⌜ r ≡ settledBy size format place row header reader ⌝ }
 {
-    let message = reader.message;
-    let before = row.timestamp;
-    if message.id == 0 {
-        let timestamp = first_time(format, before, header.timestamp_field);
+    if reader.message.id == 0 {
+        let timestamp = first_time(format, row.timestamp, header.timestamp_field);
         let first = reading(format, place, row, timed(header, timestamp), reader);
         return opens(size, first, 0);
     }
-    let later = reading(format, place, row, timed(header, before), reader);
-    opens(size, later, message.got)
+    let later = reading(format, place, row, timed(header, row.timestamp), reader);
+    opens(size, later, reader.message.got)
 }
 
 // The next byte alone.
@@ -169,10 +167,8 @@ fn by_byte(core: Core, rows: &[u32; 384], input: &[u8]) -> Taken
     requires { ⌜ (0 < length (now input)) × (inPayload (core .reader .stage) ≡ false) ⌝ }
     ensures { λ r. ⌜ Heads (whole core (now (rows .entry))) (now (input .entry)) r ⌝ }
 {
-    let reader = core.reader;
-    let stepped = step(core.room, core.max_chunk_size, rows, reader, input[0]);
     Taken {
-        stepped: stepped,
+        stepped: step(core.room, core.max_chunk_size, rows, core.reader, input[0]),
         length: 1,
     }
 }
@@ -188,21 +184,20 @@ fn by_row(
     requires { ⌜ Known core (now rows) (now input) format place ⌝ }
     ensures { λ r. ⌜ Heads (whole core (now (rows .entry))) (now (input .entry)) r ⌝ }
 {
-    let reader = core.reader;
-    let message = reader.message;
+    let id = core.reader.message.id;
     let row = row_at(rows, place);
     let header = carried(format, row, input);
     if header.timestamp_field == MAX_INITIAL_TIMESTAMP {
         return by_byte(core, rows, input);
     }
-    if basic_refusal(format, true, true, message.id != 0, message.id == row.id) != 0 {
+    if basic_refusal(format, true, true, id != 0, id == row.id) != 0 {
         return by_byte(core, rows, input);
     }
-    if refusal_of(format, row, header, message, core.room) != 0 {
+    if refusal_of(format, row, header, core.reader.message, core.room) != 0 {
         return by_byte(core, rows, input);
     }
     Taken {
-        stepped: settled(core.max_chunk_size, format, place, row, header, reader),
+        stepped: settled(core.max_chunk_size, format, place, row, header, core.reader),
         length: 1 + header_length(format),
     }
 }

@@ -1,6 +1,7 @@
 // The fields of a header in their order, and what is settled when it is whole.
 ghost use mathlib.Core.Path.{_≡_};
-ghost use Rattle.deserializer.specs.Machine.{extendedNext, lengthNext, opens as Machine·opens, streamNext, timestampNext, typeNext, whole as Machine·whole};
+ghost use Rattle.chunk_header.specs.Table.{indexOf};
+ghost use Rattle.deserializer.specs.Machine.{extendedNext, lacks as Machine·lacks, lengthNext, opens as Machine·opens, streamNext, timestampNext, typeNext, whole as Machine·whole};
 use crate::numbers::lacking;
 use crate::numbers::least;
 use crate::parts::at;
@@ -9,11 +10,9 @@ use crate::parts::go;
 use crate::parts::headed;
 use crate::parts::refuse;
 use crate::parts::timed;
-use crate::reader::Current;
 use crate::reader::Reader;
 use crate::reader::Stage;
 use crate::reader::Stepped;
-use crate::reader::Unfinished;
 use crate::refusals::MAX_INITIAL_TIMESTAMP;
 use crate::refusals::first_refusal;
 use crate::refusals::first_time;
@@ -25,29 +24,14 @@ use chunk_header::field_length;
 pub fn opens(size: u32, reader: Reader, got: u32) -> Stepped
     ensures { λ r. ⌜ r ≡ Machine·opens size reader got ⌝ }
 {
-    let chunk = reader.chunk;
-    let header = chunk.header;
-    if header.message_length == 0 {
+    if reader.chunk.header.message_length == 0 {
         return ended(reader);
     }
-    let format = chunk.format;
-    let before = chunk.before;
-    let message = reader.message;
-    let left = least(size, lacking(header.message_length, got));
-    go(Reader {
-        stage: Stage::MessagePayload,
-        chunk: Current {
-            format: format,
-            place: chunk.place,
-            before: before,
-            header: header,
-            left: left,
-        },
-        message: Unfinished {
-            id: message.id,
-            got: got,
-        },
-    })
+    let left = least(size, lacking(reader.chunk.header.message_length, got));
+    let mut next = at(reader, Stage::MessagePayload);
+    next.chunk.left = left;
+    next.message.got = got;
+    go(next)
 }
 
 // A header that is whole, with the number that it says of the time.
@@ -55,43 +39,50 @@ pub fn whole(room: u32, size: u32, reader: Reader, time: u32) -> Stepped
     ensures { λ r. ⌜ r ≡ Machine·whole room size reader time ⌝ }
 {
     let chunk = reader.chunk;
-    let message = reader.message;
     let format = chunk.format;
-    let before = chunk.before;
-    let header = chunk.header;
-    if message.id == 0 {
-        let k = first_refusal(format, header, time, room);
+    if reader.message.id == 0 {
+        let k = first_refusal(format, chunk.header, time, room);
         if k != 0 {
             return refuse(reader, k);
         }
-        let timestamp = first_time(format, before.timestamp, time);
-        return opens(size, headed(reader, timed(header, timestamp)), 0);
+        let timestamp = first_time(format, chunk.before.timestamp, time);
+        return opens(size, headed(reader, timed(chunk.header, timestamp)), 0);
     }
-    let k = later_refusal(format, before, header, time);
+    let k = later_refusal(format, chunk.before, chunk.header, time);
     if k != 0 {
         return refuse(reader, k);
     }
-    let timestamp = before.timestamp;
-    opens(size, headed(reader, timed(header, timestamp)), message.got)
+    let timestamp = chunk.before.timestamp;
+    opens(
+        size,
+        headed(reader, timed(chunk.header, timestamp)),
+        reader.message.got,
+    )
 }
 
 pub fn extended_next(room: u32, size: u32, reader: Reader) -> Stepped
     ensures { λ r. ⌜ r ≡ extendedNext room size reader ⌝ }
 {
-    let chunk = reader.chunk;
-    let header = chunk.header;
-    if header.timestamp_field == MAX_INITIAL_TIMESTAMP {
+    let field = reader.chunk.header.timestamp_field;
+    if field == MAX_INITIAL_TIMESTAMP {
         return go(at(reader, Stage::ExtendedTimestamp(0, 4)));
     }
-    whole(room, size, reader, header.timestamp_field)
+    whole(room, size, reader, field)
+}
+
+// How many bytes a field has in the chunk at hand.
+fn lacks(reader: Reader, field: HeaderField) -> usize
+    ensures { λ r. ⌜ r ≡ Machine·lacks reader (indexOf field) ⌝ }
+{
+    let chunk = reader.chunk;
+    let format = chunk.format;
+    field_length(format, field)
 }
 
 pub fn stream_next(room: u32, size: u32, reader: Reader) -> Stepped
     ensures { λ r. ⌜ r ≡ streamNext room size reader ⌝ }
 {
-    let chunk = reader.chunk;
-    let format = chunk.format;
-    let n = field_length(format, HeaderField::MessageStreamId);
+    let n = lacks(reader, HeaderField::MessageStreamId);
     if n == 0 {
         return extended_next(room, size, reader);
     }
@@ -101,9 +92,7 @@ pub fn stream_next(room: u32, size: u32, reader: Reader) -> Stepped
 pub fn type_next(room: u32, size: u32, reader: Reader) -> Stepped
     ensures { λ r. ⌜ r ≡ typeNext room size reader ⌝ }
 {
-    let chunk = reader.chunk;
-    let format = chunk.format;
-    let n = field_length(format, HeaderField::MessageTypeId);
+    let n = lacks(reader, HeaderField::MessageTypeId);
     if n == 0 {
         return stream_next(room, size, reader);
     }
@@ -113,9 +102,7 @@ pub fn type_next(room: u32, size: u32, reader: Reader) -> Stepped
 pub fn length_next(room: u32, size: u32, reader: Reader) -> Stepped
     ensures { λ r. ⌜ r ≡ lengthNext room size reader ⌝ }
 {
-    let chunk = reader.chunk;
-    let format = chunk.format;
-    let n = field_length(format, HeaderField::MessageLength);
+    let n = lacks(reader, HeaderField::MessageLength);
     if n == 0 {
         return type_next(room, size, reader);
     }
@@ -125,9 +112,7 @@ pub fn length_next(room: u32, size: u32, reader: Reader) -> Stepped
 pub fn timestamp_next(room: u32, size: u32, reader: Reader) -> Stepped
     ensures { λ r. ⌜ r ≡ timestampNext room size reader ⌝ }
 {
-    let chunk = reader.chunk;
-    let format = chunk.format;
-    let n = field_length(format, HeaderField::Timestamp);
+    let n = lacks(reader, HeaderField::Timestamp);
     if n == 0 {
         return length_next(room, size, reader);
     }

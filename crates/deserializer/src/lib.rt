@@ -100,11 +100,10 @@ fn between(reader: Reader) -> bool
     ensures { λ r. ⌜ r ≡ Told·between reader ⌝ }
 {
     let stage = reader.stage;
-    let message = reader.message;
     if is_midway(stage) {
         return false;
     }
-    message.id == 0
+    reader.message.id == 0
 }
 
 fn refuse(deserializer: ChunkDeserializer, number: u8) -> Told
@@ -148,14 +147,13 @@ impl ChunkDeserializer {
             reader: reader,
         };
         let fed = feed(core, &mut rows, input, payload);
-        let after = fed.core;
-        let next = after.reader;
+        let next = fed.core.reader;
         let answer = fed.answer;
         Decoded {
             deserializer: ChunkDeserializer {
-                room: after.room,
-                max_chunk_size: after.max_chunk_size,
-                closed: after.closed,
+                room: fed.core.room,
+                max_chunk_size: fed.core.max_chunk_size,
+                closed: fed.core.closed,
                 reader: next,
                 rows: rows,
             },
@@ -167,9 +165,8 @@ impl ChunkDeserializer {
     pub fn set_max_chunk_size(self, new_size: u32) -> Told
         ensures { λ r. ⌜ outcomeOf r ≡ told self «new_size» ⌝ }
     {
-        let closed = self.closed;
-        if closed != 0 {
-            return refuse(self, closed);
+        if self.closed != 0 {
+            return refuse(self, self.closed);
         }
         if new_size == 0 {
             return refuse(self, 3);
@@ -177,8 +174,7 @@ impl ChunkDeserializer {
         if LARGEST_CHUNK_SIZE < new_size {
             return refuse(self, 4);
         }
-        let reader = self.reader;
-        if between(reader) {
+        if between(self.reader) {
             let mut next = self;
             next.max_chunk_size = new_size;
             return Told {

@@ -39,9 +39,11 @@ fn timestamp_field(
 {
     let number = gathered(before, byte);
     if lacks <= 1 {
-        let chunk = reader.chunk;
-        let header = chunk.header;
-        return length_next(room, size, headed(reader, fielded(header, number)));
+        return length_next(
+            room,
+            size,
+            headed(reader, fielded(reader.chunk.header, number)),
+        );
     }
     go(at(reader, Stage::InitialTimestamp(number, lacks - 1)))
 }
@@ -58,9 +60,11 @@ fn length_field(
 {
     let number = gathered(before, byte);
     if lacks <= 1 {
-        let chunk = reader.chunk;
-        let header = chunk.header;
-        return type_next(room, size, headed(reader, lengthed(header, number)));
+        return type_next(
+            room,
+            size,
+            headed(reader, lengthed(reader.chunk.header, number)),
+        );
     }
     go(at(reader, Stage::MessageLength(number, lacks - 1)))
 }
@@ -68,9 +72,7 @@ fn length_field(
 fn type_field(room: u32, size: u32, reader: Reader, byte: u8) -> Stepped
     ensures { λ r. ⌜ r ≡ typeField room size reader byte ⌝ }
 {
-    let chunk = reader.chunk;
-    let header = chunk.header;
-    stream_next(room, size, headed(reader, typed(header, byte)))
+    stream_next(room, size, headed(reader, typed(reader.chunk.header, byte)))
 }
 
 fn stream_field(
@@ -85,12 +87,10 @@ fn stream_field(
 {
     let number = gathered(before, byte);
     if lacks <= 1 {
-        let chunk = reader.chunk;
-        let header = chunk.header;
         return extended_next(
             room,
             size,
-            headed(reader, streamed(header, swap_bytes(number))),
+            headed(reader, streamed(reader.chunk.header, swap_bytes(number))),
         );
     }
     go(at(reader, Stage::MessageStreamId(number, lacks - 1)))

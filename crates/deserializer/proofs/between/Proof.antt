@@ -22,12 +22,12 @@ the-other false b e = absurd (let z : _≡_ {A = ℕ} 0 1 = cc in omega arith)
 
 returns : tie.Need-returns
 returns c =
-    let r = c .before .before .before .args .reader in
+    let r = c .before .before .args .reader in
     not-both (atStart (r .stage)) (eqb (r .message .id) 0) (sym (c .before .is-midway .ensures) ∙ c .if1 .taken)
 
 returns-2 : tie.Need-returns-2
 returns-2 c =
-    let r = c .before .before .before .before .args .reader in
+    let r = c .before .before .before .args .reader in
     the-other (atStart (r .stage)) (eqb (r .message .id) 0) (sym (c .before .before .is-midway .ensures) ∙ c .before .if1 .left)
 
 pub between-spec : {M : Type 1} → statement M

@@ -31,14 +31,14 @@ between-requires c κs = search needs
 
 returns-4 : tie.Need-returns-4
 unfolding told
-returns-4 c = simp (c .if4 .taken, ← c .before .between .ensures, le-ltb _ _ (c .before .before .before .if3 .left), ne-eqb _ _ (c .before .before .before .before .if2 .left), eq-eqb _ _ (c .before .before .before .before .before .if1 .left))
+returns-4 c = simp (c .if4 .taken, ← c .before .between .ensures, le-ltb _ _ (c .before .before .if3 .left), ne-eqb _ _ (c .before .before .before .if2 .left), eq-eqb _ _ (c .before .before .before .before .if1 .left))
 
 refuse-requires-4 : tie.Need-refuse-requires-4
 refuse-requires-4 c κs = search needs
 
 returns-5 : tie.Need-returns-5
 unfolding told
-returns-5 c = simp (c .refuse4 .ensures, c .before .if4 .left, ← c .before .before .between .ensures, le-ltb _ _ (c .before .before .before .before .if3 .left), ne-eqb _ _ (c .before .before .before .before .before .if2 .left), eq-eqb _ _ (c .before .before .before .before .before .before .if1 .left))
+returns-5 c = simp (c .refuse4 .ensures, c .before .if4 .left, ← c .before .before .between .ensures, le-ltb _ _ (c .before .before .before .if3 .left), ne-eqb _ _ (c .before .before .before .before .if2 .left), eq-eqb _ _ (c .before .before .before .before .before .if1 .left))
 
 pub set-max-chunk-size-spec : {M : Type 1} → statement M
 set-max-chunk-size-spec =

@@ -21,9 +21,9 @@ refuse-requires c κs = search needs
 
 returns : tie.Need-returns
 returns c =
-    let a = c .before .before .before .before .before .before .before .before .args in
-    let f = c .before .before .before .before .before .before .before in
-    let g = c .before .before .before .before .before .before in
+    let a = c .before .before .before .before .before .args in
+    let f = c .before .before .before .before in
+    let g = c .before .before .before in
     let k = c .before .before in
     c .refuse .ensures ∙ named-refused (a .room) (a .size) (a .rows .now) (a .reader) (a .format) (a .id) (f .find .result) (g .find2 .result) (k .basic-refusal .result) (f .find .ensures) (g .find2 .ensures) (k .basic-refusal .ensures) (c .before .if1 .taken)
 
@@ -35,9 +35,9 @@ known-requires c κs = search needs
 
 returns-2 : tie.Need-returns-2
 returns-2 c =
-    let a = c .before .before .before .before .before .before .before .before .before .before .args in
-    let f = c .before .before .before .before .before .before .before .before .before in
-    let g = c .before .before .before .before .before .before .before .before in
+    let a = c .before .before .before .before .before .before .before .args in
+    let f = c .before .before .before .before .before .before in
+    let g = c .before .before .before .before .before in
     let k = c .before .before .before .before in
     c .known .ensures
     ∙ ap (λ (row : Row). known (a .room) (a .size) (a .reader) (a .format) row (f .find .result)) (c .before .row-at .ensures)
@@ -48,9 +48,9 @@ claims-requires c κs = search needs
 
 returns-3 : tie.Need-returns-3
 returns-3 c =
-    let a = c .before .before .before .before .before .before .before .before .before .args in
-    let f = c .before .before .before .before .before .before .before .before in
-    let g = c .before .before .before .before .before .before .before in
+    let a = c .before .before .before .before .before .before .args in
+    let f = c .before .before .before .before .before in
+    let g = c .before .before .before .before in
     let k = c .before .before .before in
     c .claims .ensures ∙ named-claims (a .room) (a .size) (a .rows .now) (a .reader) (a .format) (a .id) (f .find .result) (g .find2 .result) (k .basic-refusal .result) (f .find .ensures) (g .find2 .ensures) (k .basic-refusal .ensures) (c .before .before .if1 .left) (c .before .if2 .left)
 

@@ -18,10 +18,10 @@ changed-requires c κs = search needs
 returns : tie.Need-returns
 unfolding after
 returns c =
-    let a = c .before .before .before .before .before .args in
-    let number = c .before .before .before .before .closes in
+    let a = c .before .before .before .before .args in
+    let number = c .before .before .before .closes in
     let left : c .changed .result ≡ changed (a .core) (number .result) (a .core .reader) = c .changed .ensures in
-    let e = sym (c .before .before .before .is-refusal .ensures) ∙ c .before .before .if1 .taken in
+    let e = sym (c .before .before .is-refusal .ensures) ∙ c .before .if1 .taken in
     record { place = refl; event = refl; room = rw left; state = rw (left, number .ensures, e) }
 
 put-at-requires : tie.Need-put-at-requires
@@ -33,12 +33,12 @@ changed-requires-2 c κs = search needs
 returns-2 : tie.Need-returns-2
 unfolding after
 returns-2 c =
-    let e = sym (c .before .before .before .before .before .before .before .is-refusal .ensures) ∙ c .before .before .before .before .before .before .if1 .left in
+    let e = sym (c .before .before .before .before .is-refusal .ensures) ∙ c .before .before .before .if1 .left in
     record {
       place = refl;
       event = refl;
       room = rw (c .changed2 .ensures);
-      state = rw (c .changed2 .ensures, c .before .before .before .before .before .before .before .before .closes .ensures, e, c .before .put-at .ensures);
+      state = rw (c .changed2 .ensures, c .before .before .before .before .before .closes .ensures, e, c .before .put-at .ensures);
     }
 
 pub keep-spec : {M : Type 1} → statement M

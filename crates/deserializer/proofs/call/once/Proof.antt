@@ -54,8 +54,8 @@ returns-2 c =
     let pre = c .before .before .before .before .before .before .before .before .before .before .pre in
     let first = byte-at (a .input .now) (a .at) (pre .1) in
     let broken = run-broken (getD (a .input .now) (a .at) 0) (drop (a .at + 1) (a .input .now)) (whole (a .core) (a .rows .now)) (a .payload .now) (a .at) (sym (c .before .before .before .before .before .before .in-payload .ensures) ∙ c .before .before .before .before .before .if1 .taken) (sym (c .before .before .before .before .pays .ensures) ∙ c .before .before .before .if2 .left) in
-    kept-turns (a .core) (a .rows .now) (a .input .now) (a .at) (a .payload .now) (c .before .before .refuse .result) (a .at + 1) (c .keep .result) (c .keep .last .1 .0) (a .payload .now) (c .keep .ensures)
-    (omega arith) (omega (arith, pre .1)) (ap (λ (l : List ℕ). run l (whole (a .core) (a .rows .now)) (a .payload .now) (a .at)) first ∙ broken ∙ rw (c .before .before .refuse .ensures))
+    kept-turns (a .core) (a .rows .now) (a .input .now) (a .at) (a .payload .now) (c .before .refuse .result) (a .at + 1) (c .keep .result) (c .keep .last .1 .0) (a .payload .now) (c .keep .ensures)
+    (omega arith) (omega (arith, pre .1)) (ap (λ (l : List ℕ). run l (whole (a .core) (a .rows .now)) (a .payload .now) (a .at)) first ∙ broken ∙ rw (c .before .refuse .ensures))
 
 is-midway-requires : tie.Need-is-midway-requires
 is-midway-requires c κs = search needs
@@ -99,18 +99,18 @@ head-requires c κs =
 
 add-keep-3 : tie.Need-add-keep-3
 add-keep-3 c =
-    let a = c .before .before .before .before .before .before .before .before .before .before .before .before .before .args in
-    let k = heads-within (whole (a .core) (a .rows .now)) (a .input .now) (a .at) (c .before .before .before .head .result) (c .before .before .before .head .ensures) (omega (arith, c .before .before .before .before .before .before .before .before .before .before .before .before .before .pre .1)) in
-    omega (arith, k, c .before .before .before .before .before .before .before .before .before .before .before .before .before .good)
+    let a = c .before .before .before .before .before .before .before .before .before .before .before .before .args in
+    let k = heads-within (whole (a .core) (a .rows .now)) (a .input .now) (a .at) (c .before .before .head .result) (c .before .before .head .ensures) (omega (arith, c .before .before .before .before .before .before .before .before .before .before .before .before .pre .1)) in
+    omega (arith, k, c .before .before .before .before .before .before .before .before .before .before .before .before .good)
 
 keep-requires-3 : tie.Need-keep-requires-3
 keep-requires-3 c κs = search needs
 
 returns-4 : tie.Need-returns-4
 returns-4 c =
-    let a = c .before .before .before .before .before .before .before .before .before .before .before .before .before .before .args in
-    let pre = c .before .before .before .before .before .before .before .before .before .before .before .before .before .before .pre in
-    let h = c .before .before .before .before .head in
+    let a = c .before .before .before .before .before .before .before .before .before .before .before .before .before .args in
+    let pre = c .before .before .before .before .before .before .before .before .before .before .before .before .before .pre in
+    let h = c .before .before .before .head in
     kept-turns (a .core) (a .rows .now) (a .input .now) (a .at) (a .payload .now) (h .result .stepped) (a .at + h .result .length) (c .keep3 .result) (c .keep3 .last .1 .0) (a .payload .now) (c .keep3 .ensures)
     (omega (arith, h .ensures .some))
     (heads-within (whole (a .core) (a .rows .now)) (a .input .now) (a .at) (h .result) (h .ensures) (omega (arith, pre .1)))

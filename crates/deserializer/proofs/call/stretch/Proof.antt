@@ -43,7 +43,7 @@ landed-requires : tie.Need-landed-requires
 landed-requires c κs = search needs
 
 add-keep : tie.Need-add-keep
-add-keep c = omega (arith, c .before .before .before .before .before .before .before .before .least .ensures, c .before .before .before .before .before .before .before .before .before .before .before .before .before .before .before)
+add-keep c = omega (arith, c .before .before .before .before .before .before .before .before .least .ensures, c .before .before .before .before .before .before .before .before .before .before .before .before)
 
 keep-requires : tie.Need-keep-requires
 keep-requires c κs = search needs
@@ -53,7 +53,7 @@ same-length c = search needs
 
 returns : tie.Need-returns
 returns c =
-    let start = c .before .before .before .before .before .before .before .before .before .before .before .before .before .before .before .before in
+    let start = c .before .before .before .before .before .before .before .before .before .before .before .before .before in
     let a = start .args in
     let pre = start .pre in
     let n = c .before .before .before .before .before .before .before .before .before in
@@ -62,9 +62,9 @@ returns c =
     n .least .ensures ∙ ap (λ (x : ℕ). min (length (a .input .now) - a .at) x) (c .before .before .before .before .before .before .before .before .before .before .wide .ensures)
     in
     let left = c .before .before .before .before .before .put-bytes .ensures ∙ ap (λ (x : ℕ). stored (a .payload .now) x (take (a .at + n .least .result - a .at) (drop (a .at) (a .input .now)))) (w .wide2 .ensures) in
-    kept-turns (a .core) (a .rows .now) (a .input .now) (a .at) (a .payload .now) (c .before .before .landed .result) (a .at + n .least .result) (c .keep .result) (c .keep .last .1 .0) (c .before .before .before .before .before .put-bytes .last .1 .0) (c .keep .ensures)
+    kept-turns (a .core) (a .rows .now) (a .input .now) (a .at) (a .payload .now) (c .before .landed .result) (a .at + n .least .result) (c .keep .result) (c .keep .last .1 .0) (c .before .before .before .before .before .put-bytes .last .1 .0) (c .keep .ensures)
     (omega (arith, pre .some, pre .lacks)) (omega (arith, pre .some))
-    (stretched (a .core) (a .rows .now) (a .input .now) (a .at) (a .payload .now) pre (n .least .result) long (c .before .before .landed .result) (c .before .before .landed .ensures) (c .before .before .before .before .before .put-bytes .last .1 .0) left)
+    (stretched (a .core) (a .rows .now) (a .input .now) (a .at) (a .payload .now) pre (n .least .result) long (c .before .landed .result) (c .before .landed .ensures) (c .before .before .before .before .before .put-bytes .last .1 .0) left)
 
 pub stretch-spec : {M : Type 1} → statement M
 stretch-spec =

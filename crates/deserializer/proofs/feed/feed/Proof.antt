@@ -16,7 +16,7 @@ refused-requires c κs = search needs
 
 returns : tie.Need-returns
 returns c =
-    let a = c .before .before .before .before .args in
+    let a = c .before .before .before .before .before .args in
     ap (λ (x : Listed). outcome x (whole (a .core) (a .rows .now)) (a .payload .now)) (c .refused .ensures)
     ∙ sym (next-closed (whole (a .core) (a .rows .now)) (a .input .now) (a .payload .now) (c .before .if1 .taken))
 
@@ -28,7 +28,7 @@ refused-requires-2 c κs = search needs
 
 returns-2 : tie.Need-returns-2
 returns-2 c =
-    let a = c .before .before .before .before .before .before .args in
+    let a = c .before .before .before .before .before .before .before .args in
     ap (λ (x : Listed). outcome x (whole (a .core) (a .rows .now)) (a .payload .now)) (c .refused2 .ensures)
     ∙ sym (next-short (whole (a .core) (a .rows .now)) (a .input .now) (a .payload .now) (c .before .before .before .if1 .left) (omega (arith, c .before .before .wide .ensures)))
 
@@ -40,7 +40,7 @@ same-length c = search needs
 
 returns-3 : tie.Need-returns-3
 returns-3 c =
-    let a = c .before .before .before .before .before .before .before .before .before .before .args in
+    let a = c .before .before .before .before .before .before .before .before .before .before .before .args in
     let room : a .core .room ≤ length (a .payload .now) = omega (arith, c .before .before .before .before .before .before .wide .ensures) in
     c .before .before .turns .ensures
     ∙ sym (next-runs (whole (a .core) (a .rows .now)) (a .input .now) (a .payload .now) (c .before .before .before .before .before .before .before .if1 .left) room)

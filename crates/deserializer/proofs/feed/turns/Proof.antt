@@ -91,15 +91,15 @@ handed-requires c κs = tt
 
 same-length : tie.Need-same-length Inv-loop μ-loop
 same-length c =
-    let t = c .before .before .before .before .before .before .before in
+    let t = c .before .before .before .before .before .before in
     t .turn .kept .1 .1 .1 .1 .0 ∙ at-loop t .loop .inv .1
 
 returns : tie.Need-returns Inv-loop μ-loop
 returns c =
-    let t = c .before .before .before .before .before .before .before in
+    let t = c .before .before .before .before .before .before in
     let answer : answerOf (c .handed .result) ≡ read (t .turn .result .core .reader) (t .turn .result .at) = c .handed .ensures in
     ap (λ (x : Listed). outcome x (whole (t .turn .result .core) (rows-left t)) (left t)) answer
-    ∙ sym (turned t Message (c .before .before .enum-told3 .given .1))
+    ∙ sym (turned t Message (c .before .enum-told3 .given .1))
 
 enum-known-event : tie.Need-enum-known-event Inv-loop μ-loop
 enum-known-event c = search needs

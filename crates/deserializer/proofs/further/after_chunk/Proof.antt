@@ -14,7 +14,7 @@ stay-requires c κs = search needs
 
 returns : tie.Need-returns
 returns c =
-    let s = c .before .before .before .before .before .before .before in
+    let s = c .before .before .before .before .before .before in
     stays (s .args .core) (s .args .rows .now) (s .args .input .now) (s .args .payload .now) (s .args .at) (c .stay .result) (c .stay .ensures) (s .pre .0)
 
 stay-requires-2 : tie.Need-stay-requires-2
@@ -22,7 +22,7 @@ stay-requires-2 c κs = search needs
 
 returns-2 : tie.Need-returns-2
 returns-2 c =
-    let s = c .before .before .before .before .before .before .before .before .before in
+    let s = c .before .before .before .before .before .before .before in
     stays (s .args .core) (s .args .rows .now) (s .args .input .now) (s .args .payload .now) (s .args .at) (c .stay2 .result) (c .stay2 .ensures) (s .pre .0)
 
 stay-requires-3 : tie.Need-stay-requires-3
@@ -30,7 +30,7 @@ stay-requires-3 c κs = search needs
 
 returns-3 : tie.Need-returns-3
 returns-3 c =
-    let s = c .before .before .before .before .before .before .before .before .before .before .before in
+    let s = c .before .before .before .before .before .before .before .before in
     stays (s .args .core) (s .args .rows .now) (s .args .input .now) (s .args .payload .now) (s .args .at) (c .stay3 .result) (c .stay3 .ensures) (s .pre .0)
 
 find-requires : tie.Need-find-requires
@@ -41,7 +41,7 @@ stay-requires-4 c κs = search needs
 
 returns-4 : tie.Need-returns-4
 returns-4 c =
-    let s = c .before .before .before .before .before .before .before .before .before .before .before .before .before in
+    let s = c .before .before .before .before .before .before .before .before .before .before in
     stays (s .args .core) (s .args .rows .now) (s .args .input .now) (s .args .payload .now) (s .args .at) (c .stay4 .result) (c .stay4 .ensures) (s .pre .0)
 
 has-wide-type-requires : tie.Need-has-wide-type-requires
@@ -52,7 +52,7 @@ stay-requires-5 c κs = search needs
 
 returns-5 : tie.Need-returns-5
 returns-5 c =
-    let s = c .before .before .before .before .before .before .before .before .before .before .before .before .before .before .before in
+    let s = c .before .before .before .before .before .before .before .before .before .before .before .before in
     stays (s .args .core) (s .args .rows .now) (s .args .input .now) (s .args .payload .now) (s .args .at) (c .stay5 .result) (c .stay5 .ensures) (s .pre .0)
 
 row-at-requires : tie.Need-row-at-requires
@@ -63,7 +63,7 @@ stay-requires-6 c κs = search needs
 
 returns-6 : tie.Need-returns-6
 returns-6 c =
-    let s = c .before .before .before .before .before .before .before .before .before .before .before .before .before .before .before .before .before .before in
+    let s = c .before .before .before .before .before .before .before .before .before .before .before .before .before .before .before in
     stays (s .args .core) (s .args .rows .now) (s .args .input .now) (s .args .payload .now) (s .args .at) (c .stay6 .result) (c .stay6 .ensures) (s .pre .0)
 
 stay-requires-7 : tie.Need-stay-requires-7
@@ -71,14 +71,14 @@ stay-requires-7 c κs = search needs
 
 returns-7 : tie.Need-returns-7
 returns-7 c =
-    let s = c .before .before .before .before .before .before .before .before .before .before .before .before .before .before .before .before .before .before .before .before .before in
+    let s = c .before .before .before .before .before .before .before .before .before .before .before .before .before .before .before .before .before .before in
     stays (s .args .core) (s .args .rows .now) (s .args .input .now) (s .args .payload .now) (s .args .at) (c .stay7 .result) (c .stay7 .ensures) (s .pre .0)
 
 chunks-requires : tie.Need-chunks-requires
 chunks-requires c κs =
-    let s = c .before .before .before .before .before .before .before .before .before .before .before .before .before .before .before .before .before .before .before .before .before in
+    let s = c .before .before .before .before .before .before .before .before .before .before .before .before .before .before .before .before .before .before in
     let a = s .args in
-    begins-at (a .core) (a .rows .now) (a .input .now) (a .payload .now) (c .before .before .before .before .before .before .before .before .before .before .find .result) (a .at) (c .before .before .before .before .before .before .row-at .result) (starts (a .core .reader .stage) (sym (c .before .before .before .before .before .before .before .before .before .before .before .before .before .before .before .before .is-midway .ensures) ∙ c .before .before .before .before .before .before .before .before .before .before .before .before .before .before .before .if1 .left)) (c .before .before .before .before .before .before .before .before .before .before .before .before .before .if2 .left) (c .before .before .before .before .before .before .before .before .before .before .before .if3 .left) (c .before .before .before .before .before .before .before .before .before .before .find .ensures) (c .before .before .before .before .before .before .before .before .before .if4 .left) (sym (c .before .before .before .before .before .before .before .before .has-wide-type .ensures) ∙ c .before .before .before .before .before .before .before .if5 .left) (c .before .before .before .before .before .before .row-at .ensures) (c .before .before .before .before .if6 .left) (c .before .if7 .left) (s .pre .0) (s .pre .1)
+    begins-at (a .core) (a .rows .now) (a .input .now) (a .payload .now) (c .before .before .before .before .before .before .before .before .before .before .find .result) (a .at) (c .before .before .before .before .before .before .row-at .result) (starts (a .core .reader .stage) (sym (c .before .before .before .before .before .before .before .before .before .before .before .before .before .before .is-midway .ensures) ∙ c .before .before .before .before .before .before .before .before .before .before .before .before .before .if1 .left)) (c .before .before .before .before .before .before .before .before .before .before .before .before .if2 .left) (c .before .before .before .before .before .before .before .before .before .before .before .if3 .left) (c .before .before .before .before .before .before .before .before .before .before .find .ensures) (c .before .before .before .before .before .before .before .before .before .if4 .left) (sym (c .before .before .before .before .before .before .before .before .has-wide-type .ensures) ∙ c .before .before .before .before .before .before .before .if5 .left) (c .before .before .before .before .before .before .row-at .ensures) (c .before .before .before .before .if6 .left) (c .before .if7 .left) (s .pre .0) (s .pre .1)
 
 same-length : tie.Need-same-length
 same-length c = search needs

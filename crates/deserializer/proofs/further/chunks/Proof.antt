@@ -24,7 +24,7 @@ abbrev μ-loop : tie.MeasureT-loop
 
 -- the chunk that was taken
 next-at : (t : tie.After-take-chunk Inv-loop μ-loop)
-    → let l = t .before .before .before .before .before .before .before .before .before in
+    → let l = t .before .before .before .before .before .before .before in
     let a = l .before .before .before .args in
     Next (a .input .now) (l .loop .place-in) (a .row .id) (l .loop .now .reader .message .got) (a .row .«message_length») (t .before .before .before .before .least .result)
 next-at t = t .before .before .before .stops .ensures (t .before .before .if1 .left)
@@ -39,25 +39,25 @@ least-requires : tie.Need-least-requires Inv-loop μ-loop
 least-requires c κs = tt
 
 stops-requires : tie.Need-stops-requires Inv-loop μ-loop
-stops-requires c κs = c .before .before .before .before .before .loop .inv .0 .most
+stops-requires c κs = c .before .before .before .loop .inv .0 .most
 
 same-length : tie.Need-same-length Inv-loop μ-loop
-same-length c = c .before .before .before .before .before .before .before .loop .inv .3
+same-length c = c .before .before .before .before .before .loop .inv .3
 
 returns : tie.Need-returns Inv-loop μ-loop
 returns c =
-    let l = c .before .before .before .before .before .before .before .loop in
+    let l = c .before .before .before .before .before .loop in
     record { on = l .inv .1; within = l .inv .2; room = l .inv .4; runs = l .inv .5 }
 
 take-chunk-requires : tie.Need-take-chunk-requires Inv-loop μ-loop
 take-chunk-requires c κs =
-    let l = c .before .before .before .before .before .before .before .before .loop in
-    (c .before .before .stops .ensures (c .before .if1 .left), omega (arith, l .inv .0 .fits, l .inv .3, l .inv .4, c .before .before .before .before .before .before .before .before .before .before .before .pre .room))
+    let l = c .before .before .before .before .before .before .loop in
+    (c .before .before .stops .ensures (c .before .if1 .left), omega (arith, l .inv .0 .fits, l .inv .3, l .inv .4, c .before .before .before .before .before .before .before .before .before .pre .room))
 
 add-place-in : tie.Need-add-place-in Inv-loop μ-loop
 add-place-in c =
     let w = next-at (c .before .before) in
-    omega (arith, w .there, c .before .before .before .before .before .before .before .before .before .before .before .before .before .before .good)
+    omega (arith, w .there, c .before .before .before .before .before .before .before .before .before .before .before .before .good)
 
 wide-requires : tie.Need-wide-requires Inv-loop μ-loop
 wide-requires c κs = tt
@@ -65,7 +65,7 @@ wide-requires c κs = tt
 add-place-in-2 : tie.Need-add-place-in-2 Inv-loop μ-loop
 add-place-in-2 c =
     let w = next-at (c .before .before .before) in
-    omega (arith, c .wide .ensures, w .whole-in, w .there, c .before .before .before .before .before .before .before .before .before .before .before .before .before .before .before .good)
+    omega (arith, c .wide .ensures, w .whole-in, w .there, c .before .before .before .before .before .before .before .before .before .before .before .before .before .good)
 
 loop-less : tie.Need-loop-less Inv-loop μ-loop
 loop-less c =
@@ -75,7 +75,7 @@ loop-less c =
 loop-again : tie.Need-loop-again Inv-loop μ-loop
 loop-again c =
     let t = c .before .before .before in
-    let l = c .before .before .before .before .before .before .before .before .before .before .before .before in
+    let l = t .before .before .before .before .before .before .before in
     let s = l .before .before .before in
     let a = s .args in
     let w = next-at t in

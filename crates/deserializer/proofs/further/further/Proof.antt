@@ -27,7 +27,7 @@ same-length c = search needs
 
 returns-2 : tie.Need-returns-2
 returns-2 c =
-    let a = c .before .before .before .before .before .before .before .before .before .args in
+    let a = c .before .before .before .before .before .before .before .before .args in
     furthers-chunk (a .moved) (c .before .before .after-chunk .result) (a .rows .now) (a .input .now) (a .payload .now) (c .before .before .after-chunk .last .1 .1 .1 .1 .0) (c .before .before .before .before .enum-told2 .given .1) (c .before .before .after-chunk .ensures)
 
 returns-3 : tie.Need-returns-3

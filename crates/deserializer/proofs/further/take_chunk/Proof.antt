@@ -45,13 +45,13 @@ same-length c = search needs
 
 returns : tie.Need-returns
 returns c =
-    let s = c .before .before .before .before .before .before .before .before .before .before .before .before .before in
+    let s = c .before .before .before .before .before .before .before .before .before .before in
     let a = s .args in
     record {
       core = c .gone .ensures;
       buffer =
-          c .before .before .before .before .put-bytes .ensures
-          ∙ stored-piece (a .payload .now) (a .input .now) (a .at + 1) (a .left) (a .core .reader .message .got) (c .before .before .before .before .before .before .before .before .wide .result) (c .before .before .before .before .before .wide2 .result) (c .before .before .before .before .before .before .before .before .wide .ensures) (c .before .before .before .before .before .wide2 .ensures)
+          c .before .before .before .put-bytes .ensures
+          ∙ stored-piece (a .payload .now) (a .input .now) (a .at + 1) (a .left) (a .core .reader .message .got) (c .before .before .before .before .before .before .before .wide .result) (c .before .before .before .before .wide2 .result) (c .before .before .before .before .before .before .before .wide .ensures) (c .before .before .before .before .wide2 .ensures)
           (omega (arith, s .pre .0 .whole-in, s .pre .0 .there))
           (omega (arith, s .pre .0 .goes-on, s .pre .1));
     }

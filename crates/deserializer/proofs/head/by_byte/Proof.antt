@@ -14,7 +14,7 @@ step-requires c κs = search needs
 
 returns : tie.Need-returns
 returns c =
-    let s = c .before .before .before .before in
+    let s = c .before .before .before in
     heads-byte (whole (s .args .core) (s .args .rows .now)) (s .args .input .now) record { stepped = c .step .result; length = 1 } (s .pre .1) (s .pre .0) (c .step .ensures) refl
 
 pub by-byte-spec : {M : Type 1} → statement M

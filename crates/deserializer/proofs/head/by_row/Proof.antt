@@ -15,7 +15,7 @@ carried-requires c κs = search needs
 
 by-byte-requires : tie.Need-by-byte-requires
 by-byte-requires c κs =
-    let k = c .before .before .before .before .before .before .before .pre in
+    let k = c .before .before .before .before .before .pre in
     (omega (arith, k .long), rw (k .stage) refl)
 
 returns : tie.Need-returns
@@ -26,7 +26,7 @@ basic-refusal-requires c κs = search needs
 
 by-byte-requires-2 : tie.Need-by-byte-requires-2
 by-byte-requires-2 c κs =
-    let k = c .before .before .before .before .before .before .before .before .before .before .before .before .pre in
+    let k = c .before .before .before .before .before .before .before .before .pre in
     (omega (arith, k .long), rw (k .stage) refl)
 
 returns-2 : tie.Need-returns-2
@@ -37,7 +37,7 @@ refusal-of-requires c κs = search needs
 
 by-byte-requires-3 : tie.Need-by-byte-requires-3
 by-byte-requires-3 c κs =
-    let k = c .before .before .before .before .before .before .before .before .before .before .before .before .before .before .pre in
+    let k = c .before .before .before .before .before .before .before .before .before .before .pre in
     (omega (arith, k .long), rw (k .stage) refl)
 
 returns-3 : tie.Need-returns-3
@@ -49,14 +49,14 @@ settled-requires c κs = search needs
 header-length-requires : tie.Need-header-length-requires
 header-length-requires c κs = search needs
 
-add-t16 : tie.Need-add-t16
-add-t16 c = omega (arith, c .header-length .ensures, header-most (c .before .before .before .before .before .before .before .before .before .before .before .before .before .before .before .before .args .format))
+add-t15 : tie.Need-add-t15
+add-t15 c = omega (arith, c .header-length .ensures, header-most (c .before .before .before .before .before .before .before .before .before .before .before .before .args .format))
 
 returns-4 : tie.Need-returns-4
 returns-4 c =
-    let s = c .before .before .before .before .before .before .before .before .before .before .before .before .before .before .before .before in
-    heads-known (s .args .core) (s .args .rows .now) (s .args .input .now) (s .args .format) (s .args .place) (s .pre) (c .before .before .before .before .before .before .before .before .before .before .before .before .row-at .result) (c .before .before .before .before .before .before .before .before .before .before .before .carried .result) (c .before .before .before .before .before .before .before .before .before .before .before .before .row-at .ensures) (c .before .before .before .before .before .before .before .before .before .before .before .carried .ensures)
-    (c .before .before .before .before .before .before .before .before .before .if1 .left)
+    let s = c .before .before .before .before .before .before .before .before .before .before .before .before in
+    heads-known (s .args .core) (s .args .rows .now) (s .args .input .now) (s .args .format) (s .args .place) (s .pre) (c .before .before .before .before .before .before .before .before .before .before .row-at .result) (c .before .before .before .before .before .before .before .before .before .carried .result) (c .before .before .before .before .before .before .before .before .before .before .row-at .ensures) (c .before .before .before .before .before .before .before .before .before .carried .ensures)
+    (c .before .before .before .before .before .before .before .if1 .left)
     (sym (c .before .before .before .before .before .basic-refusal .ensures) ∙ c .before .before .before .before .if2 .left)
     (sym (c .before .before .before .refusal-of .ensures) ∙ c .before .before .if3 .left)
     record { stepped = c .before .settled .result; length = 1 + c .header-length .result }
@@ -79,5 +79,5 @@ by-row-spec =
     returns-3
     settled-requires
     header-length-requires
-    add-t16
+    add-t15
     returns-4)

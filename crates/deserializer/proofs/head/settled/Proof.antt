@@ -23,7 +23,7 @@ opens-requires c κs = search needs
 
 returns : tie.Need-returns
 returns c =
-    let a = c .before .before .before .before .before .before .before .before .args in
+    let a = c .before .before .before .before .before .before .args in
     let header = c .before .before .timed .ensures ∙ ap (timed (a .header)) (c .before .before .before .first-time .ensures) in
     let reads = c .before .reading .ensures ∙ ap (λ (h : Row). reader (a .reader .stage) (current (a .format) (a .place) (a .row) h 0) (a .reader .message)) header in
     rw (eq-eqb (a .reader .message .id) 0 (c .before .before .before .before .if1 .taken)) (c .opens .ensures ∙ ap (λ (r : Reader). opens (a .size) r 0) reads)
@@ -39,7 +39,7 @@ opens-requires-2 c κs = search needs
 
 returns-2 : tie.Need-returns-2
 returns-2 c =
-    let a = c .before .before .before .before .before .before .before .args in
+    let a = c .before .before .before .before .before .args in
     let reads = c .before .reading2 .ensures ∙ ap (λ (h : Row). reader (a .reader .stage) (current (a .format) (a .place) (a .row) h 0) (a .reader .message)) (c .before .before .timed2 .ensures) in
     rw (ne-eqb (a .reader .message .id) 0 (c .before .before .before .if1 .left)) (c .opens2 .ensures ∙ ap (λ (r : Reader). opens (a .size) r (a .reader .message .got)) reads)
 

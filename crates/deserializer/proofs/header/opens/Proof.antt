@@ -18,14 +18,17 @@ lacking-requires c κs = search needs
 least-requires : tie.Need-least-requires
 least-requires c κs = search needs
 
+at-requires : tie.Need-at-requires
+at-requires c κs = search needs
+
 go-requires : tie.Need-go-requires
 go-requires c κs = search needs
 
 returns-2 : tie.Need-returns-2
 unfolding opens
-returns-2 c = simp (c .go .ensures, c .before .least .ensures, c .before .before .lacking .ensures, ne-eqb _ _ (c .before .before .before .before .before .if1 .left))
+returns-2 c = simp (c .go .ensures, c .before .before .before .at .ensures, c .before .before .before .before .least .ensures, c .before .before .before .before .before .lacking .ensures, ne-eqb _ _ (c .before .before .before .before .before .before .if1 .left))
 
 pub opens-spec : {M : Type 1} → statement M
 opens-spec =
     tie.close
-    (tie.spec ended-requires returns lacking-requires least-requires go-requires returns-2)
+    (tie.spec ended-requires returns lacking-requires least-requires at-requires go-requires returns-2)

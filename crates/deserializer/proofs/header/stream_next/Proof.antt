@@ -5,15 +5,15 @@ use borrow.Author.Needs.{needs}
 use Rattle.deserializer.proofs.header.stream_next.Statement.{statement}
 use Rattle.deserializer.proofs.header.stream_next.Tie as tie
 
-field-length-requires : tie.Need-field-length-requires
-field-length-requires c κs = search needs
+lacks-requires : tie.Need-lacks-requires
+lacks-requires c κs = search needs
 
 extended-next-requires : tie.Need-extended-next-requires
 extended-next-requires c κs = search needs
 
 returns : tie.Need-returns
 unfolding streamNext
-returns c = simp (c .extended-next .ensures, eq-eqb _ _ (c .before .if1 .taken), ← c .before .before .field-length .ensures)
+returns c = simp (c .extended-next .ensures, eq-eqb _ _ (c .before .if1 .taken), ← c .before .before .lacks .ensures)
 
 at-requires : tie.Need-at-requires
 at-requires c κs = search needs
@@ -23,13 +23,13 @@ go-requires c κs = search needs
 
 returns-2 : tie.Need-returns-2
 unfolding streamNext
-returns-2 c = simp (c .go .ensures, c .before .at .ensures, ne-eqb _ _ (c .before .before .if1 .left), ← c .before .before .before .field-length .ensures)
+returns-2 c = simp (c .go .ensures, c .before .at .ensures, ne-eqb _ _ (c .before .before .if1 .left), ← c .before .before .before .lacks .ensures)
 
 pub stream-next-spec : {M : Type 1} → statement M
 stream-next-spec =
     tie.close
     (tie.spec
-    field-length-requires
+    lacks-requires
     extended-next-requires
     returns
     at-requires

@@ -11,29 +11,26 @@ add-got c = search needs
 sub-left : tie.Need-sub-left
 sub-left c = search needs
 
-paid-requires : tie.Need-paid-requires
-paid-requires c κs = search needs
-
 go-requires : tie.Need-go-requires
 go-requires c κs = search needs
 
 returns : tie.Need-returns
 unfolding landed
-returns c = simp (c .go .ensures, ne-eqb _ _ (c .before .if1 .taken), c .before .before .paid .ensures)
+returns c = simp (c .go .ensures, ne-eqb _ _ (c .before .if1 .taken))
 
 paused-requires : tie.Need-paused-requires
 paused-requires c κs = search needs
 
 returns-2 : tie.Need-returns-2
 unfolding landed
-returns-2 c = simp (c .paused .ensures, lt-ltb _ _ (c .before .if2 .taken), eq-eqb _ _ (c .before .before .before .if1 .left), c .before .before .before .before .paid .ensures)
+returns-2 c = simp (c .paused .ensures, lt-ltb _ _ (c .before .if2 .taken), eq-eqb _ _ (c .before .before .before .if1 .left))
 
 ended-requires : tie.Need-ended-requires
 ended-requires c κs = search needs
 
 returns-3 : tie.Need-returns-3
 unfolding landed
-returns-3 c = simp (c .ended .ensures, le-ltb _ _ (c .before .if2 .left), eq-eqb _ _ (c .before .before .before .if1 .left), c .before .before .before .before .paid .ensures)
+returns-3 c = simp (c .ended .ensures, le-ltb _ _ (c .before .if2 .left), eq-eqb _ _ (c .before .before .before .if1 .left))
 
 pub landed-spec : {M : Type 1} → statement M
 landed-spec =
@@ -41,7 +38,6 @@ landed-spec =
     (tie.spec
     add-got
     sub-left
-    paid-requires
     go-requires
     returns
     paused-requires

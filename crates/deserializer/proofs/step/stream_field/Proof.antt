@@ -22,10 +22,10 @@ extended-next-requires c κs = search needs
 
 returns : tie.Need-returns
 unfolding streamField
-returns c = simp (c .extended-next .ensures, c .before .headed .ensures, c .before .before .streamed .ensures, c .before .before .before .swap-bytes .ensures, le-leb _ _ (c .before .before .before .before .before .before .if1 .taken), c .before .before .before .before .before .before .before .gathered .ensures)
+returns c = simp (c .extended-next .ensures, c .before .headed .ensures, c .before .before .streamed .ensures, c .before .before .before .swap-bytes .ensures, le-leb _ _ (c .before .before .before .before .if1 .taken), c .before .before .before .before .before .gathered .ensures)
 
-sub-t15 : tie.Need-sub-t15
-sub-t15 c = search needs
+sub-t13 : tie.Need-sub-t13
+sub-t13 c = search needs
 
 at-requires : tie.Need-at-requires
 at-requires c κs = search needs
@@ -47,7 +47,7 @@ stream-field-spec =
     headed-requires
     extended-next-requires
     returns
-    sub-t15
+    sub-t13
     at-requires
     go-requires
     returns-2)

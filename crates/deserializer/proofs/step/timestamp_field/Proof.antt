@@ -19,10 +19,10 @@ length-next-requires c κs = search needs
 
 returns : tie.Need-returns
 unfolding timestampField
-returns c = simp (c .length-next .ensures, c .before .headed .ensures, c .before .before .fielded .ensures, le-leb _ _ (c .before .before .before .before .before .if1 .taken), c .before .before .before .before .before .before .gathered .ensures)
+returns c = simp (c .length-next .ensures, c .before .headed .ensures, c .before .before .fielded .ensures, le-leb _ _ (c .before .before .before .if1 .taken), c .before .before .before .before .gathered .ensures)
 
-sub-t14 : tie.Need-sub-t14
-sub-t14 c = search needs
+sub-t12 : tie.Need-sub-t12
+sub-t12 c = search needs
 
 at-requires : tie.Need-at-requires
 at-requires c κs = search needs
@@ -43,7 +43,7 @@ timestamp-field-spec =
     headed-requires
     length-next-requires
     returns
-    sub-t14
+    sub-t12
     at-requires
     go-requires
     returns-2)
