@@ -8,13 +8,8 @@ use crate::header::stream_next;
 use crate::header::type_next;
 use crate::header::whole;
 use crate::parts::at;
-use crate::parts::fielded;
 use crate::parts::go;
-use crate::parts::headed;
-use crate::parts::lengthed;
 use crate::parts::refuse;
-use crate::parts::streamed;
-use crate::parts::typed;
 use crate::reader::Reader;
 use crate::reader::Stage;
 use crate::reader::Stepped;
@@ -39,11 +34,9 @@ fn timestamp_field(
 {
     let number = gathered(before, byte);
     if lacks <= 1 {
-        return length_next(
-            room,
-            size,
-            headed(reader, fielded(reader.chunk.header, number)),
-        );
+        let mut next = reader;
+        next.chunk.header.timestamp_field = number;
+        return length_next(room, size, next);
     }
     go(at(reader, Stage::InitialTimestamp(number, lacks - 1)))
 }
@@ -60,11 +53,9 @@ fn length_field(
 {
     let number = gathered(before, byte);
     if lacks <= 1 {
-        return type_next(
-            room,
-            size,
-            headed(reader, lengthed(reader.chunk.header, number)),
-        );
+        let mut next = reader;
+        next.chunk.header.message_length = number;
+        return type_next(room, size, next);
     }
     go(at(reader, Stage::MessageLength(number, lacks - 1)))
 }
@@ -72,7 +63,9 @@ fn length_field(
 fn type_field(room: u32, size: u32, reader: Reader, byte: u8) -> Stepped
     ensures { λ r. ⌜ r ≡ typeField room size reader byte ⌝ }
 {
-    stream_next(room, size, headed(reader, typed(reader.chunk.header, byte)))
+    let mut next = reader;
+    next.chunk.header.message_type_id = byte;
+    stream_next(room, size, next)
 }
 
 fn stream_field(
@@ -87,11 +80,10 @@ fn stream_field(
 {
     let number = gathered(before, byte);
     if lacks <= 1 {
-        return extended_next(
-            room,
-            size,
-            headed(reader, streamed(reader.chunk.header, swap_bytes(number))),
-        );
+        let swapped = swap_bytes(number);
+        let mut next = reader;
+        next.chunk.header.message_stream_id = swapped;
+        return extended_next(room, size, next);
     }
     go(at(reader, Stage::MessageStreamId(number, lacks - 1)))
 }

@@ -8,21 +8,15 @@ use Rattle.deserializer.proofs.step.length_field.Tie as tie
 gathered-requires : tie.Need-gathered-requires
 gathered-requires c κs = search needs
 
-lengthed-requires : tie.Need-lengthed-requires
-lengthed-requires c κs = search needs
-
-headed-requires : tie.Need-headed-requires
-headed-requires c κs = search needs
-
 type-next-requires : tie.Need-type-next-requires
 type-next-requires c κs = search needs
 
 returns : tie.Need-returns
 unfolding lengthField
-returns c = simp (c .type-next .ensures, c .before .headed .ensures, c .before .before .lengthed .ensures, le-leb _ _ (c .before .before .before .if1 .taken), c .before .before .before .before .gathered .ensures)
+returns c = simp (c .type-next .ensures, le-leb _ _ (c .before .before .if1 .taken), c .before .before .before .gathered .ensures)
 
-sub-t12 : tie.Need-sub-t12
-sub-t12 c = search needs
+sub-t11 : tie.Need-sub-t11
+sub-t11 c = search needs
 
 at-requires : tie.Need-at-requires
 at-requires c κs = search needs
@@ -39,11 +33,9 @@ length-field-spec =
     tie.close
     (tie.spec
     gathered-requires
-    lengthed-requires
-    headed-requires
     type-next-requires
     returns
-    sub-t12
+    sub-t11
     at-requires
     go-requires
     returns-2)

@@ -11,21 +11,15 @@ gathered-requires c κs = search needs
 swap-bytes-requires : tie.Need-swap-bytes-requires
 swap-bytes-requires c κs = search needs
 
-streamed-requires : tie.Need-streamed-requires
-streamed-requires c κs = search needs
-
-headed-requires : tie.Need-headed-requires
-headed-requires c κs = search needs
-
 extended-next-requires : tie.Need-extended-next-requires
 extended-next-requires c κs = search needs
 
 returns : tie.Need-returns
 unfolding streamField
-returns c = simp (c .extended-next .ensures, c .before .headed .ensures, c .before .before .streamed .ensures, c .before .before .before .swap-bytes .ensures, le-leb _ _ (c .before .before .before .before .if1 .taken), c .before .before .before .before .before .gathered .ensures)
+returns c = simp (c .extended-next .ensures, c .before .before .swap-bytes .ensures, le-leb _ _ (c .before .before .before .if1 .taken), c .before .before .before .before .gathered .ensures)
 
-sub-t13 : tie.Need-sub-t13
-sub-t13 c = search needs
+sub-t12 : tie.Need-sub-t12
+sub-t12 c = search needs
 
 at-requires : tie.Need-at-requires
 at-requires c κs = search needs
@@ -43,11 +37,9 @@ stream-field-spec =
     (tie.spec
     gathered-requires
     swap-bytes-requires
-    streamed-requires
-    headed-requires
     extended-next-requires
     returns
-    sub-t13
+    sub-t12
     at-requires
     go-requires
     returns-2)

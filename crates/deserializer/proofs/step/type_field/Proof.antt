@@ -4,18 +4,12 @@ use borrow.Author.Needs.{needs}
 use Rattle.deserializer.proofs.step.type_field.Statement.{statement}
 use Rattle.deserializer.proofs.step.type_field.Tie as tie
 
-typed-requires : tie.Need-typed-requires
-typed-requires c κs = search needs
-
-headed-requires : tie.Need-headed-requires
-headed-requires c κs = search needs
-
 stream-next-requires : tie.Need-stream-next-requires
 stream-next-requires c κs = search needs
 
 returns : tie.Need-returns
 unfolding typeField
-returns c = simp (c .stream-next .ensures, c .before .headed .ensures, c .before .before .typed .ensures)
+returns c = simp (c .stream-next .ensures)
 
 pub type-field-spec : {M : Type 1} → statement M
-type-field-spec = tie.close (tie.spec typed-requires headed-requires stream-next-requires returns)
+type-field-spec = tie.close (tie.spec stream-next-requires returns)
