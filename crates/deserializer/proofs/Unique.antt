@@ -46,5 +46,5 @@ size-back (Untaken n) = refl
 abbrev tellTold : Telling·Outcome → Told
 tellTold o = record { deserializer = o .deserializer; telling = tellSize (o .answer) }
 
-pub told-decides-size : Decides outcomeOf
-told-decides-size = told-decides outcomeOf tellTold (λ r. ap (λ (t : Telling). record { deserializer = r .deserializer; telling = t }) (size-back (r .telling)))
+pub telling-decides : Decides outcomeOf
+telling-decides = told-decides outcomeOf tellTold (λ r. ap (λ (t : Telling). record { deserializer = r .deserializer; telling = t }) (size-back (r .telling)))
