@@ -1,6 +1,6 @@
 -- Bytes stored one run after the other, and the numbers that parts of bytes mean.
 use Prim.Native.Nat.{ℕ, zero, suc, _+_, _%_, _^_, _≤_, _<_}
-use mathlib.Core.Path.{_≡_, refl, ap, subst, _∙_}
+use mathlib.Core.Path.{_≡_, refl, sym, ap, subst, _∙_}
 use mathlib.Core.List.{List, [], _∷_, _++_, append-assoc, append-nil}
 use native.Mathlib.Omega.{arith}
 use mathlib.Core.Bool.{Bool, true, false, cond}
@@ -63,6 +63,10 @@ stored-append out xs ys at next e h =
 
 pub adds-same : {out xs ys : List ℕ} {at n : ℕ} {o : List ℕ} → xs ≡ ys → Adds out at xs n o → Adds out at ys n o
 adds-same {out} {xs} {ys} {at} {n} {o} e a = subst (λ (l : List ℕ). Adds out at l n o) e a
+
+-- nothing added
+pub adds-none : (out : List ℕ) (at : ℕ) → Adds out at [] at out
+adds-none out at = record { place = omega arith; left = sym (stored-nil out at) }
 
 -- a run added, and another straight after it
 pub adds-then : (out xs ys : List ℕ) {at n m : ℕ} {o o′ : List ℕ} → Adds out at xs n o → Adds o n ys m o′ → n + length ys ≤ length out

@@ -1,5 +1,5 @@
 -- A chunk is what comes before its payload, then its payload; and how long that is goes by its type and its time.
-use Prim.Native.Nat.{ℕ, _+_, _*_, _≤_, _<_, min}
+use Prim.Native.Nat.{ℕ, _+_, _*_, _≤_, _<_}
 use mathlib.Core.Path.{_≡_, refl, sym, ap}
 use mathlib.Core.Bool.{Bool, true, false, cond}
 use mathlib.Core.List.{List, [], _∷_, _++_, append-assoc, append-nil}
@@ -11,8 +11,7 @@ use Rattle.chunk_header.specs.declared.ChunkHeaderFormat.{ChunkHeaderFormat}
 use Rattle.chunk_header.specs.declared.ChunkHeaderFormat.the-variants.{Full, TimeDeltaWithoutMessageStreamId, TimeDeltaOnly, Empty}
 use Rattle.chunk_header.specs.Layout.{absent, present, format, chunkBytes, headerBytes, extendedBytes}
 use Rattle.chunk_header.specs.Table.{typeOf, fieldLength, headerLength}
-use Rattle.fields.specs.Endian.{bigEndian, littleEndian, number}
-use Rattle.fields.proofs.Endian.{big-none, big-little, length-big}
+use Rattle.fields.specs.Endian.{bigEndian, littleEndian}
 use Rattle.serializer.specs.Packet.{chunk, messageHeader, extended, maxField}
 
 pub chunk-split : (f : ChunkHeaderFormat) (h : ChunkHeader) (payload : List ℕ) → chunkBytes (chunk f h payload) ≡ chunkBytes (chunk f h []) ++ payload
@@ -25,26 +24,6 @@ length-header Full h = refl
 length-header TimeDeltaWithoutMessageStreamId h = refl
 length-header TimeDeltaOnly h = refl
 length-header Empty h = refl
-
--- the message header, field by field, each as wide as the table says
-pub header-fields : (f : ChunkHeaderFormat) (h : ChunkHeader)
-    → bigEndian (fieldLength (typeOf f) 0) (min (h .«timestamp_field») maxField)
-    ++ (bigEndian (fieldLength (typeOf f) 1) (h .«message_length») ++ bigEndian (fieldLength (typeOf f) 2) (h .«message_type_id»))
-    ++ bigEndian (fieldLength (typeOf f) 3) (number (littleEndian 4 (h .«message_stream_id»)))
-    ≡ headerBytes (messageHeader f h)
-unfolding fieldLength
-header-fields Full h = simp (append-assoc, big-little)
-header-fields TimeDeltaWithoutMessageStreamId h = simp (append-assoc, big-none, append-nil)
-header-fields TimeDeltaOnly h = simp (big-none, append-nil)
-header-fields Empty h = simp big-none
-
--- the extended time, as wide as it is long
-pub extended-field : (time n : ℕ) → n ≡ length (extendedBytes (extended time)) → bigEndian n time ≡ extendedBytes (extended time)
-extended-field time n e = go (ltb time maxField) e
-  where
-    go : (b : Bool) → n ≡ length (extendedBytes (cond b absent (present time))) → bigEndian n time ≡ extendedBytes (cond b absent (present time))
-    go true k = rw (k, big-none)
-    go false k = rw (k, length-big)
 
 -- a first byte
 pub basic-field : (fmt id : ℕ) → fmt < 4 → id < 64 → bigEndian 1 (64 * fmt + id) ≡ (64 * fmt + id) ∷ []

@@ -3,19 +3,16 @@ ghost use mathlib.Core.Path.{_≡_};
 ghost use mathlib.Core.List.{[], _++_, map};
 ghost use Prim.Native.Nat.{_+_, _*_, _≤_, _<_, min};
 ghost use lib.ListN.{length, drop};
-ghost use Rattle.fields.specs.Endian.{bigEndian};
+ghost use Rattle.fields.specs.Endian.{bigEndian, littleEndian};
 ghost use Rattle.fields.specs.Output.{Adds, over, stored};
-ghost use Rattle.chunk_header.specs.Layout.{chunkBytes, headerBytes};
-ghost use Rattle.chunk_header.specs.Table.{fieldLength, headerLength, typeOf};
-ghost use Rattle.serializer.specs.Packet.{chunk, chunksOf, joined, maxField, messageHeader, pieces};
+ghost use Rattle.chunk_header.specs.Layout.{chunkBytes, extendedBytes, headerBytes};
+ghost use Rattle.chunk_header.specs.Table.{headerLength, typeOf};
+ghost use Rattle.serializer.specs.Packet.{chunk, chunksOf, extended, joined, maxField, messageHeader, pieces};
 use crate::format::FirstChunk;
 use crate::length::MAX_INITIAL_TIMESTAMP;
-use crate::length::extended_length;
 use chunk_header::ChunkHeader;
 use chunk_header::ChunkHeaderFormat;
-use chunk_header::HeaderField;
 use chunk_header::chunk_type;
-use chunk_header::field_length;
 use fields::put_bytes;
 use fields::put_number;
 use fields::swap_bytes;
@@ -45,21 +42,31 @@ fn add_field(output: &mut [u8], at: usize, value: u32, width: usize) -> usize
     at + width
 }
 
-fn add_message_length_and_type_id(
-    output: &mut [u8],
-    at: usize,
-    format: ChunkHeaderFormat,
-    header: ChunkHeader,
-) -> usize
-    requires { ⌜ at + (fieldLength (typeOf format) 1 + fieldLength (typeOf format) 2) ≤ length (now output) ⌝ }
-    ensures { λ r. ⌜ Adds (now (output .entry)) at (bigEndian (fieldLength (typeOf format) 1) (header .«message_length») ++ bigEndian (fieldLength (typeOf format) 2) (header .«message_type_id»)) r (now (output .exit)) ⌝ }
+fn add_initial_timestamp(output: &mut [u8], at: usize, header: ChunkHeader) -> usize
+    requires { ⌜ at + 3 ≤ length (now output) ⌝ }
+    ensures { λ r. ⌜ Adds (now (output .entry)) at (bigEndian 3 (min (header .«timestamp_field») maxField)) r (now (output .exit)) ⌝ }
 {
-    let length = field_length(format, HeaderField::MessageLength);
-    let type_id = field_length(format, HeaderField::MessageTypeId);
-    let next = add_field(output, at, header.message_length, length);
-    add_field(output, next, header.message_type_id as u32, type_id)
+    let initial = initial_timestamp(header.timestamp_field);
+    add_field(output, at, initial, 3)
 }
 
+fn add_message_length_and_type_id(output: &mut [u8], at: usize, header: ChunkHeader) -> usize
+    requires { ⌜ at + 4 ≤ length (now output) ⌝ }
+    ensures { λ r. ⌜ Adds (now (output .entry)) at (bigEndian 3 (header .«message_length») ++ bigEndian 1 (header .«message_type_id»)) r (now (output .exit)) ⌝ }
+{
+    let next = add_field(output, at, header.message_length, 3);
+    add_field(output, next, header.message_type_id as u32, 1)
+}
+
+fn add_message_stream_id(output: &mut [u8], at: usize, header: ChunkHeader) -> usize
+    requires { ⌜ at + 4 ≤ length (now output) ⌝ }
+    ensures { λ r. ⌜ Adds (now (output .entry)) at (littleEndian 4 (header .«message_stream_id»)) r (now (output .exit)) ⌝ }
+{
+    let swapped = swap_bytes(header.message_stream_id);
+    add_field(output, at, swapped, 4)
+}
+
+// Adds the fields that a chunk of this format has.
 fn add_message_header(
     output: &mut [u8],
     at: usize,
@@ -69,13 +76,29 @@ fn add_message_header(
     requires { ⌜ at + headerLength (typeOf format) ≤ length (now output) ⌝ }
     ensures { λ r. ⌜ Adds (now (output .entry)) at (headerBytes (messageHeader format header)) r (now (output .exit)) ⌝ }
 {
-    let timestamp = field_length(format, HeaderField::Timestamp);
-    let stream_id = field_length(format, HeaderField::MessageStreamId);
-    let initial = initial_timestamp(header.timestamp_field);
-    let swapped = swap_bytes(header.message_stream_id);
-    let at1 = add_field(output, at, initial, timestamp);
-    let at2 = add_message_length_and_type_id(output, at1, format, header);
-    add_field(output, at2, swapped, stream_id)
+    match format {
+        ChunkHeaderFormat::Full => {
+            let at1 = add_initial_timestamp(output, at, header);
+            let at2 = add_message_length_and_type_id(output, at1, header);
+            add_message_stream_id(output, at2, header)
+        }
+        ChunkHeaderFormat::TimeDeltaWithoutMessageStreamId => {
+            let next = add_initial_timestamp(output, at, header);
+            add_message_length_and_type_id(output, next, header)
+        }
+        ChunkHeaderFormat::TimeDeltaOnly => add_initial_timestamp(output, at, header),
+        ChunkHeaderFormat::Empty => at,
+    }
+}
+
+fn add_extended_timestamp(output: &mut [u8], at: usize, field: u32) -> usize
+    requires { ⌜ at + length (extendedBytes (extended «field»)) ≤ length (now output) ⌝ }
+    ensures { λ r. ⌜ Adds (now (output .entry)) at (extendedBytes (extended «field»)) r (now (output .exit)) ⌝ }
+{
+    if field < MAX_INITIAL_TIMESTAMP {
+        return at;
+    }
+    add_field(output, at, field, 4)
 }
 
 fn first_byte(format: ChunkHeaderFormat, csid: u32) -> u32
@@ -90,12 +113,10 @@ fn add_header(output: &mut [u8], at: usize, format: ChunkHeaderFormat, header: C
     requires { ⌜ (header .«chunk_stream_id» < 64) × (at + length (chunkBytes (chunk format header [])) ≤ length (now output)) ⌝ }
     ensures { λ r. ⌜ Adds (now (output .entry)) at (chunkBytes (chunk format header [])) r (now (output .exit)) ⌝ }
 {
-    let field = header.timestamp_field;
-    let extended = extended_length(field);
     let basic = first_byte(format, header.chunk_stream_id);
     let at1 = add_field(output, at, basic, 1);
     let at2 = add_message_header(output, at1, format, header);
-    add_field(output, at2, field, extended)
+    add_extended_timestamp(output, at2, header.timestamp_field)
 }
 
 // Adds a chunk, and answers the place after it.

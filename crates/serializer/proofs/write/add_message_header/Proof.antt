@@ -1,92 +1,129 @@
--- Fields one straight after the other, which make the header that the definition gives.
-use Prim.Native.Nat.{ℕ, _+_, _≤_, min}
-use mathlib.Core.Path.{_≡_, ap, _∙_}
-use mathlib.Core.List.{List, _++_}
+-- Each format adds its own fields.
+use Prim.Native.Nat.{_+_, _≤_}
+use mathlib.Core.Path.{_∙_}
 use native.Mathlib.Omega.{arith}
-use lib.ListN.{length, length-append}
-use Rattle.chunk_header.specs.Table.{typeOf, fieldLength, headerLength}
-use Rattle.fields.specs.Endian.{bigEndian, littleEndian, number}
-use Rattle.fields.specs.Output.{Adds}
-use Rattle.fields.proofs.Endian.{length-big}
-use Rattle.fields.proofs.Lists.{adds-same, adds-then}
-use Rattle.serializer.specs.Packet.{maxField}
-use Rattle.serializer.proofs.Chunk.{header-fields}
+use Rattle.chunk_header.specs.declared.ChunkHeaderFormat.the-variants.{Full, TimeDeltaWithoutMessageStreamId, TimeDeltaOnly}
+use Rattle.serializer.proofs.MessageHeader.{
+  length-time,
+  length-length-type,
+  length-of,
+  length-full,
+  length-no-stream,
+  length-time-only,
+  empty-added,
+  time-added,
+  no-stream-added,
+  full-added,
+}
 use borrow.Author.Needs.{needs}
 use Rattle.serializer.proofs.write.add_message_header.Statement.{statement}
 use Rattle.serializer.proofs.write.add_message_header.Tie as tie
 
-length-both : (m n x y : ℕ) → length (bigEndian m x ++ bigEndian n y) ≡ m + n
-length-both m n x y = rw (length-append, length-big m x, length-big n y)
+enum-told : tie.Need-enum-told
+enum-told c = search needs
 
-field-length-requires : tie.Need-field-length-requires
-field-length-requires c κs = search needs
-
-field-length-requires-2 : tie.Need-field-length-requires-2
-field-length-requires-2 c κs = search needs
-
-initial-timestamp-requires : tie.Need-initial-timestamp-requires
-initial-timestamp-requires c κs = search needs
-
-swap-bytes-requires : tie.Need-swap-bytes-requires
-swap-bytes-requires c κs = search needs
-
-add-field-requires : tie.Need-add-field-requires
-unfolding headerLength
-add-field-requires c κs = omega (arith, c .before .before .before .before .field-length .ensures, c .before .before .before .before .before .before .pre)
+add-initial-timestamp-requires : tie.Need-add-initial-timestamp-requires
+add-initial-timestamp-requires c κs =
+    let start = c .before .before .before .before in
+    omega (arith, start .pre, length-of Full (c .before .enum-told .given .1), length-full)
 
 add-message-length-and-type-id-requires : tie.Need-add-message-length-and-type-id-requires
-unfolding headerLength
 add-message-length-and-type-id-requires c κs =
-    let s = c .before .before .before in
-    omega (arith, s .add-field .ensures .place, length-big (s .before .before .before .before .before .field-length .result) (s .before .before .before .initial-timestamp .result), s .before .before .before .before .before .field-length .ensures, s .add-field .kept .0, s .before .before .before .before .before .before .before .pre)
+    let time = c .before .before .before in
+    let told = time .before .before in
+    let start = told .before .before .before in
+    omega (arith, start .pre, length-of Full (told .enum-told .given .1), length-full, time .add-initial-timestamp .ensures .place, time .add-initial-timestamp .kept .0, length-time (start .args .header))
 
-add-field-requires-2 : tie.Need-add-field-requires-2
-unfolding headerLength
-add-field-requires-2 c κs =
-    let m = c .before .before .before in
-    let s = m .before .before .before .before in
-    let a = s .before .before .before .before .before .before .before .args in
-    let wide = fieldLength (typeOf (a .format)) in
-    let both = length-both (wide 1) (wide 2) (a .header .«message_length») (a .header .«message_type_id») in
-    omega (arith, s .add-field .ensures .place, length-big (s .before .before .before .before .before .field-length .result) (s .before .before .before .initial-timestamp .result), s .before .before .before .before .before .field-length .ensures, s .before .before .before .before .field-length2 .ensures, s .add-field .kept .0, m .add-message-length-and-type-id .ensures .place, m .add-message-length-and-type-id .kept .0, s .before .before .before .before .before .before .before .pre)
+add-message-stream-id-requires : tie.Need-add-message-stream-id-requires
+add-message-stream-id-requires c κs =
+    let both = c .before .before .before in
+    let time = both .before .before .before .before in
+    let told = time .before .before in
+    let start = told .before .before .before in
+    omega (arith, start .pre, length-of Full (told .enum-told .given .1), length-full, time .add-initial-timestamp .ensures .place, time .add-initial-timestamp .kept .0, length-time (start .args .header), both .add-message-length-and-type-id .ensures .place, both .add-message-length-and-type-id .kept .0, length-length-type (start .args .header))
+
+enum-told-2 : tie.Need-enum-told-2
+enum-told-2 c = search needs
+
+add-initial-timestamp-requires-2 : tie.Need-add-initial-timestamp-requires-2
+add-initial-timestamp-requires-2 c κs =
+    let start = c .before .before .before .before in
+    omega (arith, start .pre, length-of TimeDeltaWithoutMessageStreamId (c .before .enum-told2 .given .1), length-no-stream)
+
+add-message-length-and-type-id-requires-2 : tie.Need-add-message-length-and-type-id-requires-2
+add-message-length-and-type-id-requires-2 c κs =
+    let time = c .before .before .before in
+    let told = time .before .before in
+    let start = told .before .before .before in
+    omega (arith, start .pre, length-of TimeDeltaWithoutMessageStreamId (told .enum-told2 .given .1), length-no-stream, time .add-initial-timestamp2 .ensures .place, time .add-initial-timestamp2 .kept .0, length-time (start .args .header))
+
+enum-told-3 : tie.Need-enum-told-3
+enum-told-3 c = search needs
+
+add-initial-timestamp-requires-3 : tie.Need-add-initial-timestamp-requires-3
+add-initial-timestamp-requires-3 c κs =
+    let start = c .before .before .before .before in
+    omega (arith, start .pre, length-of TimeDeltaOnly (c .before .enum-told3 .given .1), length-time-only)
+
+enum-told-4 : tie.Need-enum-told-4
+enum-told-4 c = search needs
 
 same-length : tie.Need-same-length
 same-length c = search needs
 
 returns : tie.Need-returns
-unfolding headerLength
 returns c =
-    let m = c .before .before .before .before .before .before in
-    let s = m .before .before .before .before in
-    let a = s .before .before .before .before .before .before .before .args in
-    let h = a .header in
-    let wide = fieldLength (typeOf (a .format)) in
-    let xs = bigEndian (wide 0) (min (h .«timestamp_field») maxField) in
-    let ys = bigEndian (wide 1) (h .«message_length») ++ bigEndian (wide 2) (h .«message_type_id») in
-    let zs = bigEndian (wide 3) (number (littleEndian 4 (h .«message_stream_id»))) in
-    let first : Adds (a .output .now) (a .at) xs (s .add-field .result) (s .add-field .last .0) =
-    adds-same (ap (λ (w : ℕ). bigEndian w (s .before .before .before .initial-timestamp .result)) (s .before .before .before .before .before .field-length .ensures) ∙ ap (bigEndian (wide 0)) (s .before .before .before .initial-timestamp .ensures)) (s .add-field .ensures)
-    in
-    let lx = length-big (wide 0) (min (h .«timestamp_field») maxField) in
-    let ly = length-both (wide 1) (wide 2) (h .«message_length») (h .«message_type_id») in
-    let lz = length-big (wide 3) (number (littleEndian 4 (h .«message_stream_id»))) in
-    let second : Adds (a .output .now) (a .at) (xs ++ ys) (m .add-message-length-and-type-id .result) (m .add-message-length-and-type-id .last .0) =
-    adds-then (a .output .now) xs ys first (m .add-message-length-and-type-id .ensures) (omega (arith, first .place, lx, ly, s .before .before .before .before .before .before .before .pre))
-    in
-    let third = adds-same (ap (λ (w : ℕ). bigEndian w (s .before .before .swap-bytes .result)) (s .before .before .before .before .field-length2 .ensures) ∙ ap (bigEndian (wide 3)) (s .before .before .swap-bytes .ensures)) (c .before .before .add-field2 .ensures) in
-    let lxy : length (xs ++ ys) ≡ length xs + length ys = length-append xs ys in
-    adds-same (header-fields (a .format) h) (adds-then (a .output .now) (xs ++ ys) zs second third (omega (arith, second .place, lxy, lx, ly, lz, s .before .before .before .before .before .before .before .pre)))
+    let stream = c .before .before in
+    let both = stream .before .before .before .before in
+    let time = both .before .before .before .before in
+    let told = time .before .before in
+    let start = told .before .before .before in
+    full-added (start .args .output .now) (start .args .at) (start .args .format) (start .args .header) (start .pre) (told .enum-told .given .1) (time .add-initial-timestamp .ensures) (both .add-message-length-and-type-id .ensures) (stream .add-message-stream-id .ensures)
+
+same-length-2 : tie.Need-same-length-2
+same-length-2 c = search needs
+
+returns-2 : tie.Need-returns-2
+returns-2 c =
+    let both = c .before .before in
+    let time = both .before .before .before .before in
+    let told = time .before .before in
+    let start = told .before .before .before in
+    no-stream-added (start .args .output .now) (start .args .at) (start .args .format) (start .args .header) (start .pre) (told .enum-told2 .given .1) (time .add-initial-timestamp2 .ensures) (both .add-message-length-and-type-id2 .ensures)
+
+same-length-3 : tie.Need-same-length-3
+same-length-3 c = search needs
+
+returns-3 : tie.Need-returns-3
+returns-3 c =
+    let time = c .before .before in
+    let told = time .before .before in
+    let start = told .before .before .before in
+    time-added (start .args .output .now) (start .args .at) (start .args .format) (start .args .header) (start .pre) (told .enum-told3 .given .1) (time .add-initial-timestamp3 .ensures)
+
+returns-4 : tie.Need-returns-4
+returns-4 c =
+    let start = c .before .before .before in
+    empty-added (start .args .output .now) (start .args .at) (start .args .format) (start .args .header) (start .pre) (c .enum-told4 .given .1)
 
 pub add-message-header-spec : {M : Type 1} → statement M
 add-message-header-spec =
     tie.close
     (tie.spec
-    field-length-requires
-    field-length-requires-2
-    initial-timestamp-requires
-    swap-bytes-requires
-    add-field-requires
+    enum-told
+    add-initial-timestamp-requires
     add-message-length-and-type-id-requires
-    add-field-requires-2
+    add-message-stream-id-requires
+    enum-told-2
+    add-initial-timestamp-requires-2
+    add-message-length-and-type-id-requires-2
+    enum-told-3
+    add-initial-timestamp-requires-3
+    enum-told-4
     same-length
-    returns)
+    returns
+    same-length-2
+    returns-2
+    same-length-3
+    returns-3
+    returns-4)
