@@ -67,14 +67,19 @@ pub fn later_format(force_uncompressed: bool) -> ChunkHeaderFormat
 }
 
 // The five rules, in their order.
-fn get_header_format(message: Message, delta: u32, previous: ChunkHeader) -> ChunkHeaderFormat
-    requires { ⌜ delta ≡ Header·delta message previous ⌝ }
+fn get_header_format(
+    message: Message,
+    csid: u32,
+    delta: u32,
+    previous: ChunkHeader,
+) -> ChunkHeaderFormat
+    requires { ⌜ (csid ≡ chunkStream (message .«type_id»)) × (delta ≡ Header·delta message previous) ⌝ }
     ensures { λ r. ⌜ r ≡ Header·format message previous ⌝ }
 {
     if message.force_uncompressed {
         return ChunkHeaderFormat::Full;
     }
-    if previous.chunk_stream_id != get_csid_for_message_type(message.type_id) {
+    if previous.chunk_stream_id != csid {
         return ChunkHeaderFormat::Full;
     }
     if previous.can_be_dropped {
@@ -112,8 +117,8 @@ pub fn first_chunk(message: Message, previous: ChunkHeader) -> FirstChunk
     ensures { λ r. ⌜ r ≡ firstChunk message previous ⌝ }
 {
     let delta = message.timestamp.subtract(previous.timestamp).value;
-    let format = get_header_format(message, delta, previous);
     let csid = get_csid_for_message_type(message.type_id);
+    let format = get_header_format(message, csid, delta, previous);
     let field = time_field(format, message.timestamp.value, delta);
     let timestamp = message.timestamp;
     FirstChunk {

@@ -107,7 +107,10 @@ fn send(
     requires { ⌜ (0 < length (now payload)) × (length (now payload) ≤ maxLength) ⌝ }
     ensures { λ r. ⌜ outcomeOf r (now (output .exit)) ≡ sent serializer message (now (payload .entry)) «size_after» (now (output .entry)) ⌝ }
 {
-    let plan = plan_for(serializer, message);
+    let row = row_of(message.type_id);
+    let mut headers = serializer.previous_headers;
+    let previous = headers[row];
+    let plan = plan_packet(message, previous, serializer.max_chunk_size);
     let needed = bytes_needed(plan, payload);
     if output.len() < needed {
         return Serialized {
@@ -117,11 +120,9 @@ fn send(
     }
     let first = plan.first;
     let later = plan.later;
-    write_packet(first, later, payload, plan.size, output);
-    let mut headers = serializer.previous_headers;
-    let row = row_of(message.type_id);
     let header = first.header;
     headers[row] = header;
+    write_packet(first, later, payload, plan.size, output);
     Serialized {
         serializer: ChunkSerializer {
             previous_headers: headers,
