@@ -28,10 +28,6 @@ unfolding bigEndian
 length-big zero x = refl
 length-big (suc n) x = ap suc (length-big n x)
 
-pub big-none : (x : ℕ) → bigEndian 0 x ≡ []
-unfolding bigEndian
-big-none x = refl
-
 pub gather-append : (before : ℕ) (xs ys : List ℕ) → gather before (xs ++ ys) ≡ gather (gather before xs) ys
 unfolding gather
 gather-append before [] ys = refl

@@ -30,14 +30,6 @@ pub stored-fits : (out bs : List ℕ) (at : ℕ) → at + length bs ≤ length o
 unfolding stored
 stored-fits out bs at h = rw (le-leb (at + length bs) (length out) h)
 
-pub length-stored : (out bs : List ℕ) (at : ℕ) → length (stored out at bs) ≡ length out
-unfolding stored
-length-stored out bs at = go (leb (at + length bs) (length out))
-  where
-    go : (b : Bool) → length (cond b (sets out at bs) out) ≡ length out
-    go true = length-sets out at bs
-    go false = refl
-
 pub stored-nil : (out : List ℕ) (at : ℕ) → stored out at [] ≡ out
 unfolding stored
 stored-nil out at = go (leb (at + 0) (length out))

@@ -1,8 +1,8 @@
--- The chunks of a payload after the first, taken one by one.
+-- The chunks of a payload, taken one by one; the first may have a format of its own.
 use Prim.Native.Nat.{ℕ, _+_, _-_, _<_, min}
 use mathlib.Core.Path.{_≡_, refl, sym, ap, _∙_}
 use mathlib.Core.Bool.{Bool, true, false}
-use mathlib.Core.List.{List, [], _++_, map}
+use mathlib.Core.List.{List, [], _∷_, _++_, map}
 use native.Mathlib.Nat.{add-sub-cancel-left}
 use native.Mathlib.Omega.{arith}
 use lib.Dec.{ltb}
@@ -52,23 +52,29 @@ drop-least size xs = go (ltb size (length xs)) refl
         let same : min size (length xs) ≡ length xs = omega arith in
         rw (same, drop-of-length-le xs {i = length xs} (omega arith), drop-of-length-le xs {i = size} more)
 
+-- the chunks of a payload, the first in a format of its own
+abbrev pub chunked : ChunkHeaderFormat → ChunkHeaderFormat → ChunkHeader → ℕ → List ℕ → List ℕ
+chunked f g h size payload = joined (chunksOf f g h (pieces size payload))
+
+chunked-same : (g : ChunkHeaderFormat) (h : ChunkHeader) (ps : List (List ℕ)) → chunksOf g g h ps ≡ map (chunk g h) ps
+chunked-same g h [] = refl
+chunked-same g h (p ∷ ps) = refl
+
+pub chunked-none : (f g : ChunkHeaderFormat) (h : ChunkHeader) (size : ℕ) → 0 < size → chunked f g h size [] ≡ []
+chunked-none f g h size p = rw (pieces-none size p)
+
+chunked-step : (f g : ChunkHeaderFormat) (h : ChunkHeader) (size : ℕ) (payload : List ℕ) → 0 < size → 0 < length payload
+    → chunked f g h size payload ≡ chunkBytes (chunk f h (take size payload)) ++ chunked g g h size (drop size payload)
+chunked-step f g h size payload p q = rw (pieces-step size payload p q, chunked-same g h (pieces size (drop size payload)))
+
 -- one turn: a piece from a place on, and what is left after it
-pub later-piece : (f : ChunkHeaderFormat) (h : ChunkHeader) (size : ℕ) (payload : List ℕ) (from n : ℕ) → 0 < size → from < length payload
+pub chunked-piece : (f g : ChunkHeaderFormat) (h : ChunkHeader) (size : ℕ) (payload : List ℕ) (from n : ℕ) → 0 < size → from < length payload
     → n ≡ min size (length payload - from)
-    → later f h size (drop from payload) ≡ chunkBytes (chunk f h (take (from + n - from) (drop from payload))) ++ later f h size (drop (from + n) payload)
-later-piece f h size payload from n p q e =
+    → chunked f g h size (drop from payload) ≡ chunkBytes (chunk f h (take (from + n - from) (drop from payload))) ++ chunked g g h size (drop (from + n) payload)
+chunked-piece f g h size payload from n p q e =
     let xs = drop from payload in
     let some : 0 < length xs = rw length-drop (omega arith) in
     let k : n ≡ min size (length xs) = rw length-drop e in
     let piece : take n xs ≡ take size xs = ap (λ (m : ℕ). take m xs) k ∙ take-least size xs in
     let rest : drop (from + n) payload ≡ drop size xs = sym (drop-drop n from payload) ∙ ap (λ (m : ℕ). drop m xs) k ∙ drop-least size xs in
-    later-step f h size xs p some ∙ rw (add-sub-cancel-left from n, piece, rest)
-
--- a packet is its first chunk and the later ones
-pub packet-parts : (f g : ChunkHeaderFormat) (h : ChunkHeader) (size : ℕ) (payload : List ℕ) (n : ℕ) → 0 < size → 0 < length payload
-    → n ≡ min size (length payload)
-    → joined (chunksOf f g h (pieces size payload)) ≡ chunkBytes (chunk f h (take (n - 0) payload)) ++ later g h size (drop size payload)
-packet-parts f g h size payload n p q e =
-    let whole : n - 0 ≡ n = omega arith in
-    let piece : take (n - 0) payload ≡ take size payload = ap (λ (m : ℕ). take m payload) (whole ∙ e) ∙ take-least size payload in
-    rw (piece, pieces-step size payload p q)
+    chunked-step f g h size xs p some ∙ rw (add-sub-cancel-left from n, piece, rest)

@@ -1,10 +1,10 @@
 // How a packet is written: chunk after chunk, each field at its place.
 ghost use mathlib.Core.Path.{_≡_};
-ghost use mathlib.Core.List.{[], _++_, map};
+ghost use mathlib.Core.List.{[], _++_};
 ghost use Prim.Native.Nat.{_+_, _*_, _≤_, _<_, min};
-ghost use lib.ListN.{length, drop};
+ghost use lib.ListN.{length};
 ghost use Rattle.fields.specs.Endian.{bigEndian, littleEndian};
-ghost use Rattle.fields.specs.Output.{Adds, over, stored};
+ghost use Rattle.fields.specs.Output.{Adds, over};
 ghost use Rattle.chunk_header.specs.Layout.{chunkBytes, extendedBytes, headerBytes};
 ghost use Rattle.chunk_header.specs.Table.{headerLength, typeOf};
 ghost use Rattle.serializer.specs.Packet.{chunk, chunksOf, extended, joined, maxField, messageHeader, pieces};
@@ -135,28 +135,7 @@ fn add_chunk(
     next + payload.len()
 }
 
-// Adds the chunks that follow the first, from a place in the payload on.
-fn add_later_chunks(
-    output: &mut [u8],
-    start: usize,
-    format: ChunkHeaderFormat,
-    header: ChunkHeader,
-    payload: &[u8],
-    size: usize,
-)
-    requires { ⌜ (header .«chunk_stream_id» < 64) × (0 < size) × (start + length (joined (map (chunk format header) (pieces size (drop size (now payload))))) ≤ length (now output)) ⌝ }
-    ensures { λ _. ⌜ now (output .exit) ≡ stored (now (output .entry)) start (joined (map (chunk format header) (pieces size (drop size (now (payload .entry)))))) ⌝ }
-{
-    let mut at = start;
-    let mut from = size;
-    while from < payload.len() {
-        let n = least(size, payload.len() - from);
-        at = add_chunk(output, at, format, header, &payload[from..from + n]);
-        from += n;
-    }
-}
-
-// Writes the packet of a message at the start of the output.
+// Writes the packet of a message at the start of the output: its first chunk has a format of its own.
 pub fn write_packet(
     first: FirstChunk,
     later: ChunkHeaderFormat,
@@ -164,12 +143,17 @@ pub fn write_packet(
     size: usize,
     output: &mut [u8],
 )
-    requires { ⌜ (first .header .«chunk_stream_id» < 64) × (0 < size) × (0 < length (now payload)) × (length (joined (chunksOf (first .format) later (first .header) (pieces size (now payload)))) ≤ length (now output)) ⌝ }
+    requires { ⌜ (first .header .«chunk_stream_id» < 64) × (0 < size) × (length (joined (chunksOf (first .format) later (first .header) (pieces size (now payload)))) ≤ length (now output)) ⌝ }
     ensures { λ _. ⌜ now (output .exit) ≡ over (joined (chunksOf (first .format) later (first .header) (pieces size (now (payload .entry))))) (now (output .entry)) ⌝ }
 {
-    let format = first.format;
     let header = first.header;
-    let n = least(size, payload.len());
-    let next = add_chunk(output, 0, format, header, &payload[0..n]);
-    add_later_chunks(output, next, later, header, payload, size);
+    let mut format = first.format;
+    let mut at = 0;
+    let mut from = 0;
+    while from < payload.len() {
+        let n = least(size, payload.len() - from);
+        at = add_chunk(output, at, format, header, &payload[from..from + n]);
+        format = later;
+        from += n;
+    }
 }

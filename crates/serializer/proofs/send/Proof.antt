@@ -63,7 +63,6 @@ write-packet-requires c κs =
     let stream = ap (λ (q : Plan). q .first .header .«chunk_stream_id») (plan p) in (
       omega (arith, stream, stream-range (start .args .message .«type_id»)),
       rw (size p) (omega arith),
-      start .pre .0,
       omega (arith, n .bytes-needed .ensures, c .before .before .before .if1 .left),
     )
 
