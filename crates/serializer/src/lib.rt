@@ -121,6 +121,7 @@ fn send(
     let first = plan.first;
     let later = plan.later;
     let header = first.header;
+    // Before the bytes are written: a copy of the rows straight after this store would wait for it.
     headers[row] = header;
     write_packet(first, later, payload, plan.size, output);
     Serialized {
