@@ -8,6 +8,7 @@ pub mod FurtherOn
 pub mod Heading
 pub mod Identifying
 pub mod Naming
+pub mod PieceWithin
 pub mod Progress
 pub mod Reached
 pub mod Reading

@@ -8,3 +8,4 @@ pub mod Meaning
 pub mod Rows
 pub mod Told
 pub mod Turn
+pub mod Within

@@ -17,6 +17,7 @@ mod reader;
 mod refusals;
 mod rows;
 mod step;
+mod within;
 
 pub use crate::call::Answer;
 use crate::call::Core;
@@ -28,6 +29,8 @@ use crate::reader::Stage;
 use crate::reader::Unfinished;
 use crate::rows::ROWS;
 use crate::rows::Row;
+use crate::within::lies_within;
+use crate::within::take_within;
 use chunk_header::ChunkHeaderFormat;
 use time::RtmpTimestamp;
 
@@ -138,6 +141,13 @@ impl ChunkDeserializer {
     pub fn get_next_message(self, input: &[u8], payload: &mut [u8]) -> Decoded
         ensures { λ r. ⌜ outcome (answerOf (r .answer)) (r .deserializer) (now (payload .exit)) ≡ next self (now (input .entry)) (now (payload .entry)) ⌝ }
     {
+        if lies_within(self, input.len(), payload.len()) {
+            let deserializer = take_within(self, input, payload);
+            return Decoded {
+                deserializer: deserializer,
+                answer: Answer::More { used: input.len() },
+            };
+        }
         let mut rows = self.rows;
         let reader = self.reader;
         let core = Core {
