@@ -1,0 +1,4 @@
+pub mod Conditions
+pub mod History
+pub mod Table
+pub mod Terms

@@ -1,0 +1,132 @@
+-- Document 01's table, "Numbers of refusal": at each entry point that can give a number, given exactly when, and what it leaves.
+use Prim.Native.Nat.{ℕ, _<_}
+use mathlib.Core.List.{List, [], _∷_}
+use mathlib.Core.Logic.{_↔_, _≢_, _⊎_}
+use mathlib.Core.Path.{_≡_}
+use lib.ListN.{length}
+use Rattle.fields.specs.Endian.{Bytes, bigEndian}
+use Rattle.user_control.specs.declared.UserControlEvent.{UserControlEvent}
+use Rattle.user_control.specs.Answer.{refused as no-body}
+use Rattle.user_control.specs.Body.{body}
+use Rattle.user_control.specs.Reading.{reading}
+use Rattle.user_control.specs.Writing.{leaves, writing}
+use Rattle.serializer.specs.declared.ChunkSerializer.{ChunkSerializer}
+use Rattle.serializer.specs.declared.format.Message.{Message}
+use Rattle.serializer.specs.Answer.{refused as no-packet}
+use Rattle.serializer.specs.Serialize.{Outcome as Encoded, needed, packetOf, serialized, sizeChanged, sizeMessage}
+use Rattle.chunk_header.specs.Layout.{Chunk}
+use Rattle.deserializer.specs.declared.ChunkDeserializer.{ChunkDeserializer}
+use Rattle.deserializer.specs.Answer.{refused}
+use Rattle.deserializer.specs.Call.{next, outcome}
+use Rattle.deserializer.specs.Told.{fresh, made, outcome as telling, refused as no-size, told}
+use Rattle.refusal_table.specs.Conditions.{nine, ten, eleven, twelve, thirteen, fourteen, fifteen, sixteen, basic, head, headFor12}
+use Rattle.refusal_table.specs.History.{Closed, Made, Open, Settled}
+use Rattle.refusal_table.specs.Terms.{OneOf, Row, _unless_}
+
+-- a number at an entry point, by the promises: at the encoder's calls, which leave "all as before, 0 bytes" ..
+abbrev pub Encoding : ℕ → Encoded → ChunkSerializer → List ℕ → Type 0 → Type 0
+Encoding k o s output Holds = Row (o .answer ≡ no-packet k) Holds ((o .serializer ≡ s) × (o .output ≡ output))
+
+abbrev pub Serialize : ℕ → (ChunkSerializer → Message → List ℕ → List ℕ → Type 0) → Type 0
+Serialize k Holds = (s : ChunkSerializer) (m : Message) (payload output : List ℕ) → Encoding k (serialized s m payload output) s output (Holds s m payload output)
+
+abbrev pub PacketLength : ℕ → (List ℕ → Type 0) → Type 0
+PacketLength k Holds = (s : ChunkSerializer) (m : Message) (payload : List ℕ) → needed s m payload ≡ no-packet k ↔ Holds payload
+
+abbrev pub ChangeSize : ℕ → (ChunkSerializer → ℕ → ℕ → List ℕ → Type 0) → Type 0
+ChangeSize k Holds = (s : ChunkSerializer) (size time : ℕ) (output : List ℕ) → Encoding k (sizeChanged s size time output) s output (Holds s size time output)
+
+-- the packet of a size change
+abbrev pub sizePacket : ChunkSerializer → ℕ → ℕ → List ℕ
+sizePacket s size time = packetOf s (sizeMessage time) (bigEndian 4 size)
+
+-- .. at the bodies' ..
+abbrev pub WriteBody : ℕ → (UserControlEvent → List ℕ → Type 0) → Type 0
+WriteBody k Holds = (e : UserControlEvent) (output : List ℕ) → Row (writing (body e) output ≡ no-body k) (Holds e output) (leaves (body e) output ≡ output)
+
+abbrev pub ReadBody : ℕ → (List ℕ → Type 0) → Type 0
+ReadBody k Holds = (bytes : List ℕ) → reading bytes ≡ no-body k ↔ Holds bytes
+
+-- .. and at the decoder's, where it is open
+abbrev pub New : ℕ → (ℕ → Type 0) → Type 0
+New k Holds = (room : ℕ) → Row (made room .answer ≡ no-size k) (Holds room) (made room .deserializer ≡ fresh room k)
+
+abbrev pub TellSize : ℕ → (List ℕ → ℕ → Type 0) → Type 0
+TellSize k Holds =
+    (start : ChunkDeserializer) (bytes : List ℕ) (d : ChunkDeserializer) → Open start bytes d → (size : ℕ)
+    → Row (told d size .answer ≡ no-size k) (Holds bytes size) (told d size .deserializer ≡ d)
+
+-- a call that is refused before its first byte ..
+abbrev pub Call : ℕ → (ChunkDeserializer → List ℕ → Type 0) → Type 0
+Call k Holds =
+    (start : ChunkDeserializer) (bytes : List ℕ) (d : ChunkDeserializer) → Open start bytes d → (input payload : List ℕ) → Bytes input → (n : ℕ)
+    → Row (next d input payload .answer ≡ refused k n) (Holds d payload × (n ≡ 0)) (next d input payload ≡ outcome (refused k 0) d payload)
+
+-- .. and one that is refused "by bytes", at the n-th: a part of a chunk has come
+abbrev pub CallAt : (Chunk → List ℕ) → ℕ → (ChunkDeserializer → Chunk → Type 0) → Type 0
+CallAt part k Holds =
+    (start : ChunkDeserializer) (bytes : List ℕ) (d : ChunkDeserializer) → Open start bytes d → (input payload : List ℕ) → Bytes input → (n : ℕ)
+    → Row (next d input payload .answer ≡ refused k n) (Settled part Holds start bytes input payload n unless (length payload < d .room)) (Closed k d input payload n)
+
+pub record RefusalTable : Type 0 where
+  -- 1 | message to encode has no payload | all as before, 0 bytes
+  pub serialize-1 : Serialize 1 (λ s m payload output. length payload ≡ 0)
+  pub packet-length-1 : PacketLength 1 (λ payload. length payload ≡ 0)
+  -- 2 | its payload is over 16777215 | the same
+  pub serialize-2 : Serialize 2 (λ s m payload output. 16777215 < length payload)
+  pub packet-length-2 : PacketLength 2 (λ payload. 16777215 < length payload)
+  -- 3 | new chunk size is 0 | that end as before, 0 bytes
+  pub change-size-3 : ChangeSize 3 (λ s size time output. size ≡ 0)
+  pub tell-size-3 : TellSize 3 (λ bytes size. size ≡ 0)
+  -- 4 | new chunk size is over 2147483647 | the same
+  pub change-size-4 : ChangeSize 4 (λ s size time output. 2147483647 < size)
+  pub tell-size-4 : TellSize 4 (λ bytes size. 2147483647 < size)
+  -- 5 | output shorter than the exact bytes needed | all as before, 0 bytes
+  pub serialize-5 : Serialize 5 (λ s m payload output. length output < length (packetOf s m payload) unless ((length payload ≡ 0) ⊎ (16777215 < length payload)))
+  pub change-size-5 : ChangeSize 5 (λ s size time output. length output < length (sizePacket s size time) unless ((size ≡ 0) ⊎ (2147483647 < size)))
+  pub write-body-5 : WriteBody 5 (λ e output. length output < length (body e))
+  -- 6 | room is 0 or over 16777215 | a decoder closed with 6
+  pub new-6 : New 6 (λ room. (room ≡ 0) ⊎ (16777215 < room))
+  -- 7 | payload buffer shorter than the room | all as before, 0 used
+  pub call-7 : Call 7 (λ d payload. length payload < d .room)
+  -- 8 | decoder told a size after the first byte of a message and before its end | decoder as before
+  pub tell-size-8 : TellSize 8 (λ bytes size. 0 < length bytes unless ((size ≡ 0) ⊎ (2147483647 < size)))
+  -- 9 | type 1, 2 or 3 outside a message on a stream with no row | closed
+  pub call-9 : CallAt basic 9 nine
+  -- 10 | type 0 on a stream with no row, 64 rows used | closed
+  pub call-10 : CallAt basic 10 (λ d c. ten d c unless nine d c)
+  -- 11 | inside a message, another chunk stream | closed
+  pub call-11 : CallAt basic 11 (λ d c. eleven d c unless (nine d c ⊎ ten d c))
+  -- 12 | inside a message, type 1 or 2, or a type 0 that doesn't repeat the message's header | closed
+  pub call-12 : CallAt headFor12 12 (λ d c. twelve d c unless (nine d c ⊎ ten d c ⊎ eleven d c))
+  -- 13 | first chunk of type 1, 2 or 3, extended time below 16777215 | closed
+  pub call-13 : CallAt head 13 (λ d c. thirteen d c unless (nine d c ⊎ ten d c ⊎ eleven d c ⊎ twelve d c))
+  -- 14 | first chunk, length over the room | closed
+  pub call-14 : CallAt head 14 (λ d c. fourteen d c unless (nine d c ⊎ ten d c ⊎ eleven d c ⊎ twelve d c ⊎ thirteen d c))
+  -- 15 | control body under 2 bytes, or a known code with fewer bytes than it needs | nothing written
+  pub read-body-15 : ReadBody 15 fifteen
+  -- 16 | control code unknown | nothing written
+  pub read-body-16 : ReadBody 16 (λ bytes. sixteen bytes unless fifteen bytes)
+
+-- "A closed decoder answers its own number to every later call, uses 0 bytes and changes nothing"
+pub record ClosedStays : Type 0 where
+  pub call : (d : ChunkDeserializer) → d .closed ≢ 0 → (input payload : List ℕ) → next d input payload ≡ outcome (refused (d .closed) 0) d payload
+  pub tell-size : (d : ChunkDeserializer) → d .closed ≢ 0 → (size : ℕ) → told d size ≡ telling (no-size (d .closed)) d
+
+-- and no entry point gives a number that the table does not name for it; a decoder that calls can make is open, or closed with one that closes
+pub record NoOther : Type 0 where
+  pub serialize : (s : ChunkSerializer) (m : Message) (payload output : List ℕ) (k : ℕ) → serialized s m payload output .answer ≡ no-packet k
+      → OneOf k (1 ∷ 2 ∷ 5 ∷ [])
+  pub packet-length : (s : ChunkSerializer) (m : Message) (payload : List ℕ) (k : ℕ) → needed s m payload ≡ no-packet k → OneOf k (1 ∷ 2 ∷ [])
+  pub change-size : (s : ChunkSerializer) (size time : ℕ) (output : List ℕ) (k : ℕ) → sizeChanged s size time output .answer ≡ no-packet k
+      → OneOf k (3 ∷ 4 ∷ 5 ∷ [])
+  pub write-body : (e : UserControlEvent) (output : List ℕ) (k : ℕ) → writing (body e) output ≡ no-body k → OneOf k (5 ∷ [])
+  pub read-body : (bytes : List ℕ) (k : ℕ) → reading bytes ≡ no-body k → OneOf k (15 ∷ 16 ∷ [])
+  pub new : (room k : ℕ) → made room .answer ≡ no-size k → OneOf k (6 ∷ [])
+  pub tell-size : (start : ChunkDeserializer) (bytes : List ℕ) (d : ChunkDeserializer) → Open start bytes d → (size k : ℕ) → told d size .answer ≡ no-size k
+      → OneOf k (3 ∷ 4 ∷ 8 ∷ [])
+  pub call : (start : ChunkDeserializer) (bytes : List ℕ) (d : ChunkDeserializer) → Open start bytes d → (input payload : List ℕ) → Bytes input → (k n : ℕ)
+      → next d input payload .answer ≡ refused k n
+      → OneOf k (7 ∷ 9 ∷ 10 ∷ 11 ∷ 12 ∷ 13 ∷ 14 ∷ [])
+  pub open-or-closed : (d : ChunkDeserializer) → Made d
+      → ((start : ChunkDeserializer) × ((bytes : List ℕ) × Open start bytes d)) ⊎ OneOf (d .closed) (6 ∷ 9 ∷ 10 ∷ 11 ∷ 12 ∷ 13 ∷ 14 ∷ [])
