@@ -12,12 +12,12 @@ use Rattle.fields.specs.Output.{over}
 use Rattle.user_control.specs.declared.UserControlEvent.{UserControlEvent}
 use Rattle.user_control.specs.Answer.{Answer, event, refused, wrote}
 use Rattle.user_control.specs.Body.{body}
-use Rattle.user_control.specs.Reading.{among, bodyLength, codeIn, count, known, numbersIn, reading, short}
+use Rattle.user_control.specs.Reading.{bodyLength, codeIn, count, known, numbersIn, reading, short}
 use Rattle.user_control.specs.Writing.{lacks, leaves, writing}
 use Rattle.refusal_table.specs.Conditions.{fifteen, sixteen}
 use Rattle.refusal_table.specs.Table.{ReadBody, WriteBody}
 use Rattle.refusal_table.specs.Terms.{OneOf, Row, _unless_}
-use Rattle.refusal_table.proofs.Deciding.{Decides, both, equal, here, in-words, later, less, neither, not-decides, one-of}
+use Rattle.refusal_table.proofs.Deciding.{Decides, both, equal, here, in-words, later, less, listed, neither, not-decides, one-of}
 
 -- an answer of another number, and one that is no refusal
 other : (m k : ℕ) → m ≢ k → refused m ≢ refused k
@@ -29,11 +29,7 @@ written n k h = let z : _≡_ {A = ℕ} 0 1 = cc in omega arith
 read : (c : ℕ) (ns : List ℕ) (k : ℕ) → event c ns ≢ refused k
 read c ns k h = let z : _≡_ {A = ℕ} 0 1 = cc in omega arith
 
--- a code is among some, and so is none that is not
-listed : (c : ℕ) (ks : List ℕ) → Decides (among c ks) (OneOf c ks)
-listed c [] = record { yes = λ e. absurd (let z : _≡_ {A = ℕ} 0 1 = cc in omega arith); no = λ e h. h }
-listed c (k ∷ ks) = one-of (equal c k) (listed c ks)
-
+-- the codes
 abbrev codes : List ℕ
 codes = 0 ∷ 1 ∷ 2 ∷ 3 ∷ 4 ∷ 6 ∷ 7 ∷ 31 ∷ 32 ∷ []
 

@@ -7,12 +7,22 @@ use mathlib.Core.Path.{_≡_, refl}
 use native.Mathlib.Omega.{arith}
 use lib.Dec.{eqb, ltb}
 use borrow.Author.Tests.{eqb-false, eqb-true, ltb-false, ltb-true}
+use Rattle.user_control.specs.Reading.{among}
 use Rattle.deserializer.proofs.Sound.{clash, never}
-use Rattle.refusal_table.specs.Terms.{_unless_}
+use Rattle.refusal_table.specs.Terms.{OneOf, _unless_}
 
 pub record Decides (t : Bool) (P : Type 0) : Type 0 where
   pub yes : t ≡ true → P
   pub no : t ≡ false → ¬ P
+
+-- the test of a condition that holds, and of one that does not
+pub is-true : {P : Type 0} {t : Bool} → Decides t P → P → t ≡ true
+is-true {t = true} d p = refl
+is-true {t = false} d p = absurd (d .no refl p)
+
+pub is-false : {P : Type 0} {t : Bool} → Decides t P → ¬ P → t ≡ false
+is-false {t = true} d n = absurd (n (d .yes refl))
+is-false {t = false} d n = refl
 
 -- numbers that are equal, and that are less
 pub equal : (a b : ℕ) → Decides (eqb a b) (a ≡ b)
@@ -30,9 +40,24 @@ pub both : {P Q : Type 0} {t u : Bool} → Decides t P → Decides u Q → Decid
 both {t = true} p q = record { yes = λ e. (p .yes refl, q .yes e); no = λ e h. q .no e (h .1) }
 both {t = false} p q = record { yes = λ e. clash refl e; no = λ e h. p .no refl (h .0) }
 
+-- the second of two, where the first holds
+pub both-then : {P Q : Type 0} {t u : Bool} → Decides t P → (P → Decides u Q) → Decides (t && u) (P × Q)
+both-then {t = true} p q = both {t = true} p (q (p .yes refl))
+both-then {t = false} p q = record { yes = λ e. clash refl e; no = λ e h. p .no refl (h .0) }
+
 pub one-of : {P Q : Type 0} {t u : Bool} → Decides t P → Decides u Q → Decides (t || u) (P ⊎ Q)
 one-of {t = true} p q = record { yes = λ e. inl (p .yes refl); no = λ e. clash e refl }
 one-of {t = false} p q = record { yes = λ e. inr (q .yes e); no = λ e. ⊎-elim (p .no refl) (q .no e) }
+
+-- a condition that is decided holds where its negation does not
+pub not-not : {P : Type 0} {t : Bool} → Decides t P → ¬ (¬ P) → P
+not-not {t = true} d n = d .yes refl
+not-not {t = false} d n = absurd (n (d .no refl))
+
+-- a number is one of some
+pub listed : (c : ℕ) (ks : List ℕ) → Decides (among c ks) (OneOf c ks)
+listed c [] = record { yes = λ e. absurd (let z : _≡_ {A = ℕ} 0 1 = cc in omega arith); no = λ e h. h }
+listed c (k ∷ ks) = one-of (equal c k) (listed c ks)
 
 -- the same condition in other words
 pub in-words : {P Q : Type 0} {t : Bool} → P ↔ Q → Decides t P → Decides t Q
@@ -47,6 +72,15 @@ module _ {O : Type 0} (F : O → Type 0) where
   pub later : {x rest : O} {P Q : Type 0} (t : Bool) → Decides t P → ¬ F x → F rest ↔ Q → F (cond t x rest) ↔ (Q unless P)
   later true d n r = (λ f. absurd (n f), λ q. absurd (q .1 (d .yes refl)))
   later false d n r = (λ f. (r .0 f, d .no refl), λ q. r .1 (q .0))
+
+  -- by one of two ways, of which a test decides
+  pub where-so : {x y : O} {P Q : Type 0} (t : Bool) → Decides t P → (P → F x ↔ Q) → ¬ F y → F (cond t x y) ↔ (P × Q)
+  where-so true d q n = let p = d .yes refl in (λ f. (p, q p .0 f), λ h. q p .1 (h .1))
+  where-so false d q n = (λ f. absurd (n f), λ h. absurd (d .no refl (h .0)))
+
+  pub where-not : {x y : O} {P Q : Type 0} (t : Bool) → Decides t P → ¬ F x → (¬ P → F y ↔ Q) → F (cond t x y) ↔ ((¬ P) × Q)
+  where-not true d n q = (λ f. absurd (n f), λ h. absurd (h .0 (d .yes refl)))
+  where-not false d n q = let p = d .no refl in (λ f. (p, q p .0 f), λ h. q p .1 (h .1))
 
   pub neither : {x y : O} (t : Bool) → ¬ F x → ¬ F y → ¬ F (cond t x y)
   neither true n m = n

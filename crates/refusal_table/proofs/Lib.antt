@@ -1,3 +1,5 @@
 pub mod Bodies
+pub mod Chunks
 pub mod Deciding
 pub mod Encoder
+pub mod Settling
