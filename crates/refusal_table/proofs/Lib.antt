@@ -2,4 +2,8 @@ pub mod Bodies
 pub mod Chunks
 pub mod Deciding
 pub mod Encoder
+pub mod Opened
 pub mod Settling
+pub mod Sizes
+pub mod Standing
+pub mod Three

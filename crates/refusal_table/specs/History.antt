@@ -20,8 +20,8 @@ pub data Made : ChunkDeserializer → Type 0 where
 
 -- those that are open: `start` is the decoder when it was made, was told a size or handed out its last message, and `bytes` what it has used since
 pub data Open : ChunkDeserializer → List ℕ → ChunkDeserializer → Type 0 where
-  new : (room : ℕ) → made room .answer ≡ taken → Open (made room .deserializer) [] (made room .deserializer)
-  sized : {start d : ChunkDeserializer} {bytes : List ℕ} → Open start bytes d → (size : ℕ) → told d size .answer ≡ taken
+  opened : (room : ℕ) → made room .answer ≡ taken → Open (made room .deserializer) [] (made room .deserializer)
+  resized : {start d : ChunkDeserializer} {bytes : List ℕ} → Open start bytes d → (size : ℕ) → told d size .answer ≡ taken
       → Open (told d size .deserializer) [] (told d size .deserializer)
   handed : {start d : ChunkDeserializer} {bytes : List ℕ} → Open start bytes d → (input payload : List ℕ) → Bytes input
       → (type stream time long used : ℕ) → next d input payload .answer ≡ message type stream time long used
