@@ -1,5 +1,6 @@
 pub mod Bodies
 pub mod Chunks
+pub mod Closes
 pub mod Deciding
 pub mod Encoder
 pub mod Opened
@@ -7,3 +8,4 @@ pub mod Settling
 pub mod Sizes
 pub mod Standing
 pub mod Three
+pub mod Tracing

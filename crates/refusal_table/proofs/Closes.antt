@@ -1,0 +1,67 @@
+-- What a closing refusal leaves: the bytes before the one that settles it go on as ever, and that one changes the closed number and stores nothing.
+use Prim.Native.Nat.{ℕ, zero, suc, _+_, _-_}
+use mathlib.Core.Bool.{Bool, true, false, cond}
+use mathlib.Core.List.{List, [], _∷_}
+use mathlib.Core.Path.{_≡_, refl, sym, ap, _∙_}
+use native.Mathlib.Omega.{arith}
+use lib.Dec.{eqb, ltb}
+use lib.ListN.{set, take}
+use Rattle.deserializer.specs.declared.ChunkDeserializer.{ChunkDeserializer}
+use Rattle.deserializer.specs.declared.reader.Event.{Event}
+use Rattle.deserializer.specs.declared.reader.Event.the-variants.{Go, Chunk, Message, Refuse}
+use Rattle.deserializer.specs.declared.reader.Reader.{Reader}
+use Rattle.deserializer.specs.declared.reader.Stepped.{Stepped}
+use Rattle.deserializer.specs.Answer.{message, more, refused}
+use Rattle.deserializer.specs.Call.{Outcome, after, end, run, stepOf, writes}
+use Rattle.deserializer.specs.Machine.{ended, go, inPayload, landed, paid, paused, pays, refuse, stepped}
+use Rattle.deserializer.proofs.Closing.{refusal-only-closes}
+use Rattle.deserializer.proofs.Cut.{refused-not-more}
+use Rattle.refusal_table.specs.History.{closedWith}
+use Rattle.refusal_table.proofs.Standing.{refused-not-message}
+
+-- a byte of payload is not refused, and no other byte is stored
+landed-goes : (r : Reader) (n k : ℕ) → landed r n .event ≡ Refuse k → ⊥
+unfolding landed
+landed-goes r n k = by-cases (eqb (r .chunk .left - n) 0) (ltb (r .message .got + n) (r .chunk .header .«message_length»)) (paid r (r .message .got + n) (r .chunk .left - n))
+  where
+    by-cases : (t u : Bool) (r′ : Reader) → cond t (cond u (paused r′ (r′ .message .got)) (ended r′)) (go r′) .event ≡ Refuse k → ⊥
+    by-cases true true r′ h = let z : _≡_ {A = ℕ} 0 1 = cc in omega arith
+    by-cases true false r′ h = let z : _≡_ {A = ℕ} 0 1 = cc in omega arith
+    by-cases false u r′ h = let z : _≡_ {A = ℕ} 0 1 = cc in omega arith
+
+refused-stores-nothing : (d : ChunkDeserializer) (payload : List ℕ) (x k : ℕ) → stepOf d x .event ≡ Refuse k → writes d payload x ≡ payload
+unfolding stepOf writes
+refused-stores-nothing d payload x k =
+    by-cases (inPayload (d .reader .stage)) (pays (d .room) (d .reader)) (stepped (d .reader .stage) (d .room) (d .«max_chunk_size») (d .rows) (d .reader) x)
+  where
+    by-cases : (t u : Bool) (s : Stepped) → cond t (cond u (landed (d .reader) 1) (refuse (d .reader) 255)) s .event ≡ Refuse k
+        → cond t (cond u (set payload (d .reader .message .got) x) payload) payload ≡ payload
+    by-cases true true s h = absurd (landed-goes (d .reader) 1 k h)
+    by-cases true false s h = refl
+    by-cases false u s h = refl
+
+-- a run that is refused, at the byte after j others
+pub record ClosedAt (a : List ℕ) (d : ChunkDeserializer) (payload : List ℕ) (n k m : ℕ) : Type 0 where
+  pub others : ℕ
+  pub used : m ≡ n + suc others
+  pub closes : run a d payload n .deserializer ≡ closedWith k (run (take others a) d payload n .deserializer)
+  pub stays : run a d payload n .payload ≡ run (take others a) d payload n .payload
+
+module _ (x : ℕ) (a : List ℕ) (d : ChunkDeserializer) (payload : List ℕ) (n k m : ℕ) where
+  abbrev d′ : ChunkDeserializer
+  d′ = after d (stepOf d x)
+
+  abbrev payload′ : List ℕ
+  payload′ = writes d payload x
+
+  goes-closed : (e : Event) → stepOf d x .event ≡ e → ((o : Outcome) → end e d′ payload′ (n + 1) o ≡ o) → ClosedAt a d′ payload′ (n + 1) k m
+      → ClosedAt (x ∷ a) d payload n k m
+  unfolding run
+  goes-closed e is goes c =
+      let on : (b : List ℕ) → run (x ∷ b) d payload n ≡ run b d′ payload′ (n + 1) = λ b. ap (λ (e : Event). end e d′ payload′ (n + 1) (run b d′ payload′ (n + 1))) is ∙ goes (run b d′ payload′ (n + 1)) in
+      record {
+        others = suc (c .others);
+        used = omega (arith, c .used);
+        closes = ap (λ (o : Outcome). o .deserializer) (on a) ∙ c .closes ∙ ap (λ (o : Outcome). closedWith k (o .deserializer)) (sym (on (take (c .others) a)));
+        stays = ap (λ (o : Outcome). o .payload) (on a) ∙ c .stays ∙ ap (λ (o : Outcome). o .payload) (sym (on (take (c .others) a)));
+      }
