@@ -65,3 +65,30 @@ module _ (x : ℕ) (a : List ℕ) (d : ChunkDeserializer) (payload : List ℕ) (
         closes = ap (λ (o : Outcome). o .deserializer) (on a) ∙ c .closes ∙ ap (λ (o : Outcome). closedWith k (o .deserializer)) (sym (on (take (c .others) a)));
         stays = ap (λ (o : Outcome). o .payload) (on a) ∙ c .stays ∙ ap (λ (o : Outcome). o .payload) (sym (on (take (c .others) a)));
       }
+
+  -- by the first byte's event
+  by-event : (e : Event) → stepOf d x .event ≡ e → end e d′ payload′ (n + 1) (run a d′ payload′ (n + 1)) .answer ≡ refused k m
+      → (run a d′ payload′ (n + 1) .answer ≡ refused k m → ClosedAt a d′ payload′ (n + 1) k m)
+      → ClosedAt (x ∷ a) d payload n k m
+  unfolding run
+  by-event Go is h later = goes-closed Go is (λ o. refl) (later h)
+  by-event Chunk is h later = goes-closed Chunk is (λ o. refl) (later h)
+  by-event Message is h later = refused-not-message (sym h)
+  by-event (Refuse j) is h later =
+      let ek : j ≡ k = cc in
+      let em : n + 1 ≡ m = cc in
+      let at-once : run (x ∷ a) d payload n ≡ end (Refuse j) d′ payload′ (n + 1) (run a d′ payload′ (n + 1)) =
+      ap (λ (e : Event). end e d′ payload′ (n + 1) (run a d′ payload′ (n + 1))) is
+      in
+      record {
+        others = 0;
+        used = omega (arith, em);
+        closes = ap (λ (o : Outcome). o .deserializer) at-once ∙ refusal-only-closes d x j is ∙ ap (λ (i : ℕ). closedWith i d) ek;
+        stays = ap (λ (o : Outcome). o .payload) at-once ∙ refused-stores-nothing d payload x j is;
+      }
+
+pub closed-at : (a : List ℕ) (d : ChunkDeserializer) (payload : List ℕ) (n k m : ℕ) → run a d payload n .answer ≡ refused k m → ClosedAt a d payload n k m
+unfolding run
+closed-at [] d payload n k m h = refused-not-more (sym h)
+closed-at (x ∷ a) d payload n k m h =
+    by-event x a d payload n k m (stepOf d x .event) refl h (closed-at a (after d (stepOf d x)) (writes d payload x) (n + 1) k m)

@@ -1,11 +1,14 @@
 pub mod Bodies
+pub mod Calls
 pub mod Chunks
 pub mod Closes
 pub mod Deciding
 pub mod Encoder
+pub mod Histories
 pub mod Opened
 pub mod Settling
 pub mod Sizes
 pub mod Standing
+pub mod Table
 pub mod Three
 pub mod Tracing

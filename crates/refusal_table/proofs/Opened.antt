@@ -151,7 +151,7 @@ after-message d input payload type stream time long used r c h =
     by-input [] q = more-not-message q
     by-input (x ∷ a) q = let s = run-stood a x d payload 0 r .handed type stream time long used q in (s .0, s .1 ∙ c)
 
-bytes-append : (xs ys : List ℕ) → Bytes xs → Bytes ys → Bytes (xs ++ ys)
+pub bytes-append : (xs ys : List ℕ) → Bytes xs → Bytes ys → Bytes (xs ++ ys)
 bytes-append [] ys h k i = k i
 bytes-append (x ∷ xs) ys h k zero = h 0
 bytes-append (x ∷ xs) ys h k (suc i) = bytes-append xs ys (λ j. h (suc j)) k i

@@ -51,10 +51,10 @@ unfolding told
 told-closed d n size = rw (ne-eqb (d .closed) 0 n)
 
 -- and to an open one
-abbrev Is : ℕ → Outcome → Type 0
+abbrev pub Is : ℕ → Outcome → Type 0
 Is k o = o .answer ≡ refused k
 
-abbrev AsBefore : ChunkDeserializer → Outcome → Type 0
+abbrev pub AsBefore : ChunkDeserializer → Outcome → Type 0
 AsBefore d o = o .deserializer ≡ d
 
 gives : (d : ChunkDeserializer) (n : ℕ) → Gives Is (AsBefore d) n (outcome (refused n) d)
