@@ -28,10 +28,11 @@ use Rattle.refusal_table.specs.Table.{Call, CallAt}
 use Rattle.refusal_table.specs.Terms.{OneOf, Row, _unless_}
 use Rattle.refusal_table.proofs.Closes.{ClosedAt, closed-at}
 use Rattle.refusal_table.proofs.Deciding.{listed}
+use Rattle.refusal_table.proofs.Fates.{refused-at}
 use Rattle.refusal_table.proofs.Opened.{Leads, Opened, Same, bytes-append, follows, from, is-open, opened-of, same-room}
 use Rattle.refusal_table.proofs.Settling.{At, Settles, numbers}
 use Rattle.refusal_table.proofs.Standing.{more-not-message, refused-not-message}
-use Rattle.refusal_table.proofs.Tracing.{Traced, refused-at, traces}
+use Rattle.refusal_table.proofs.Tracing.{Traced, taken-led, traces}
 
 -- a decoder that stands between messages stands between chunks
 between-chunks : (stage : Stage) (t : Bool) → (atStart stage && t) ≡ true → stage ≡ Csid
@@ -61,10 +62,6 @@ module _ {start : ChunkDeserializer} {bytes : List ℕ} {d : ChunkDeserializer} 
   runs : next d input payload ≡ run input d payload 0
   runs = next-runs d input payload (is-open o) long
 
-  -- at the start, a call over the bytes before some place is a run
-  from-start : (a : List ℕ) → next start a payload ≡ run a start payload 0
-  from-start a = next-runs start a payload (o .open-at-start) (omega (arith, same-room o))
-
   -- it is the end of one run from the start
   in-one-run : run (bytes ++ input) start payload 0 .answer ≡ shift (0 + length bytes) (next d input payload) .answer
   in-one-run =
@@ -76,9 +73,11 @@ module _ {start : ChunkDeserializer} {bytes : List ℕ} {d : ChunkDeserializer} 
   starts-between = between-chunks (start .reader .stage) (eqb (start .reader .message .id) 0) (o .starts)
 
   module _ (are-bytes : Bytes input) (k n : ℕ) (h : next d input payload .answer ≡ refused k n) where
-    traced : Traced start (bytes ++ input) payload 0 k (0 + length bytes + n)
+    traced : Traced start (bytes ++ input) 0 k (0 + length bytes + n)
     traced =
-        traces (bytes ++ input) start payload 0 k (0 + length bytes + n) (o .reached) starts-between (bytes-append bytes input (o .are-bytes) are-bytes)
+        traces (bytes ++ input) start payload 0 k (0 + length bytes + n)
+        (record { reached = o .reached; between = starts-between; is-open = o .open-at-start; long = omega (arith, same-room o) })
+        (bytes-append bytes input (o .are-bytes) are-bytes)
         (in-one-run ∙ (rw h))
 
     within : n ≤ length input
@@ -87,27 +86,25 @@ module _ {start : ChunkDeserializer} {bytes : List ℕ} {d : ChunkDeserializer} 
         omega (arith, u)
 
     -- given: the chunk is there
-    settled : (part : Chunk → List ℕ) (Holds : ChunkDeserializer → Chunk → Type 0) → Settles part k Holds → Settled part Holds start bytes input payload n
+    settled : (part : Chunk → List ℕ) (Holds : ChunkDeserializer → Chunk → Type 0) → Settles part k Holds → Settled part Holds start bytes input n
     settled part Holds s = by-trace traced
       where
-        by-trace : Traced start (bytes ++ input) payload 0 k (0 + length bytes + n) → Settled part Holds start bytes input payload n
+        by-trace : Traced start (bytes ++ input) 0 k (0 + length bytes + n) → Settled part Holds start bytes input n
         by-trace t =
-            let e : next start (t .before) payload .deserializer ≡ t .decoder = ap (λ (o : Outcome). o .deserializer) (from-start (t .before)) ∙ t .leads .leaves in
-            let z : 0 + length (t .before) ≡ length (t .before) = omega arith in
             let q = s .tells (t .decoder) (t .chunk) (t .reached) (t .fits) (t .part) (t .at) in
-            let l : length bytes + n ≡ length (t .before ++ t .part) = simp length-append (omega (arith, t .used)) in
-            let c : bytes ++ take n input ≡ t .before ++ t .part =
-            cut-at bytes input (t .before ++ t .part) (t .rest) n (t .is ∙ sym (append-assoc (t .before) (t .part) (t .rest))) l
+            let l : length bytes + n ≡ length (t .earlier ++ t .part) = simp length-append (omega (arith, t .used)) in
+            let c : bytes ++ take n input ≡ t .earlier ++ t .part =
+            cut-at bytes input (t .earlier ++ t .part) (t .rest) n (t .is ∙ sym (append-assoc (t .earlier) (t .part) (t .rest))) l
             in
             record {
-              before = t .before;
+              earlier = t .earlier;
+              decoder = t .decoder;
               chunk = t .chunk;
-              more-wanted = ap (λ (o : Outcome). o .answer) (from-start (t .before)) ∙ t .leads .wants ∙ ap more z;
-              between = rw e (t .between);
-              fits = rw e (t .fits);
-              come = c ∙ ap (λ (l : List ℕ). t .before ++ l) (q .1);
+              taken-before = t .taken-before;
+              fits = t .fits;
+              come = c ∙ ap (λ (l : List ℕ). t .earlier ++ l) (q .1);
               within = within;
-              holds = rw e (q .0);
+              holds = q .0;
             }
 
     -- "closed": the byte that settles it only closes
@@ -125,31 +122,27 @@ module _ {start : ChunkDeserializer} {bytes : List ℕ} {d : ChunkDeserializer} 
     one-of-them : OneOf k (9 ∷ 10 ∷ 11 ∷ 12 ∷ 13 ∷ 14 ∷ [])
     one-of-them = by-trace traced
       where
-        by-trace : Traced start (bytes ++ input) payload 0 k (0 + length bytes + n) → OneOf k (9 ∷ 10 ∷ 11 ∷ 12 ∷ 13 ∷ 14 ∷ [])
+        by-trace : Traced start (bytes ++ input) 0 k (0 + length bytes + n) → OneOf k (9 ∷ 10 ∷ 11 ∷ 12 ∷ 13 ∷ 14 ∷ [])
         by-trace t = numbers (t .decoder) (t .chunk) k (t .part) (t .reached) (t .fits) (t .refuses) (t .at)
 
   -- given, where the chunk is there
   gives : (part : Chunk → List ℕ) (k : ℕ) (Holds : ChunkDeserializer → Chunk → Type 0) (n : ℕ) → k ≢ 0 → Settles part k Holds
-      → Settled part Holds start bytes input payload n
+      → Settled part Holds start bytes input n
       → next d input payload .answer ≡ refused k n
   gives part k Holds n nz s t =
-      let d₁ = next start (t .before) payload .deserializer in
-      let r : Reached d₁ = next-reached start (t .before) payload (o .reached) in
+      let led = taken-led (t .taken-before) (o .reached) starts-between (o .open-at-start) in
       let p = part (t .chunk) in
-      let x = t .before in
+      let x = t .earlier in
       let rest = drop n input in
-      let lead : Leads start x d₁ payload 0 = record {
-        wants = ap (λ (o : Outcome). o .answer) (sym (from-start x)) ∙ t .more-wanted ∙ ap more (let z : length x ≡ 0 + length x = omega arith in z);
-        leaves = ap (λ (o : Outcome). o .deserializer) (sym (from-start x));
-      }
-      in
       let joined : bytes ++ input ≡ x ++ (p ++ rest) =
       ap (λ (l : List ℕ). bytes ++ l) (sym (take-append-drop n input)) ∙ sym (append-assoc bytes (take n input) rest) ∙ ap (λ (l : List ℕ). l ++ rest) (t .come)
       ∙ append-assoc x p rest
       in
       let answer : run (bytes ++ input) start payload 0 .answer ≡ refused k (0 + length x + length p) =
-      ap (λ (l : List ℕ). run l start payload 0 .answer) joined ∙ ap (λ (o : Outcome). o .answer) (follows x (p ++ rest) start d₁ payload 0 lead)
-      ∙ refused-at r (t .between) (t .fits) nz (s .settles d₁ (t .chunk) r (t .fits) (t .holds)) (run x start payload 0 .payload) (0 + length x) rest
+      ap (λ (l : List ℕ). run l start payload 0 .answer) joined
+      ∙ ap (λ (o : Outcome). o .answer) (follows x (p ++ rest) start (t .decoder) payload 0 (led .leads payload 0))
+      ∙ refused-at (led .reached) (led .between) (t .fits) nz (s .settles (t .decoder) (t .chunk) (led .reached) (t .fits) (t .holds)) (run x start payload 0 .payload)
+      (0 + length x) rest
       in
       let c = counted (next d input payload) (0 + length bytes) k (0 + length x + length p) (sym in-one-run ∙ answer) in
       let l : length bytes + n ≡ length x + length p = lengths n (t .within) x p (t .come) in

@@ -4,6 +4,7 @@ pub mod Chunks
 pub mod Closes
 pub mod Deciding
 pub mod Encoder
+pub mod Fates
 pub mod Histories
 pub mod Opened
 pub mod Settling

@@ -4,12 +4,11 @@ use mathlib.Core.List.{List, [], _++_}
 use mathlib.Core.Path.{_≡_}
 use lib.ListN.{length, take}
 use Rattle.fields.specs.Endian.{Bytes}
-use Rattle.chunk_header.specs.Layout.{Chunk}
+use Rattle.chunk_header.specs.Layout.{Chunk, chunkBytes}
 use Rattle.deserializer.specs.declared.ChunkDeserializer.{ChunkDeserializer}
-use Rattle.deserializer.specs.declared.reader.Stage.the-variants.{Csid}
 use Rattle.deserializer.specs.Answer.{message, more}
 use Rattle.deserializer.specs.Call.{next}
-use Rattle.deserializer.specs.Chunk.{HeadFits}
+use Rattle.deserializer.specs.Chunk.{ChunkFits, HeadFits}
 use Rattle.deserializer.specs.Told.{made, taken, told}
 
 -- any run of calls
@@ -30,17 +29,24 @@ pub data Open : ChunkDeserializer → List ℕ → ChunkDeserializer → Type 0 
       → next d input payload .answer ≡ more used
       → Open start (bytes ++ input) (next d input payload .deserializer)
 
--- with the n-th byte of the input a part of a chunk has come, and of this chunk something holds. The chunk began in this call or an earlier one:
--- the decoder wanted more after the bytes before it, and stood between chunks
-pub record Settled (part : Chunk → List ℕ) (Holds : ChunkDeserializer → Chunk → Type 0) (start : ChunkDeserializer) (bytes input payload : List ℕ) (n : ℕ) : Type 0 where
-  pub before : List ℕ
+-- whole chunks, one after the other, which a decoder takes: after each it wants more, so none is refused and none ends a message
+pub data Taken : ChunkDeserializer → List ℕ → ChunkDeserializer → Type 0 where
+  none : {d : ChunkDeserializer} → Taken d [] d
+  one-more : {d d′ : ChunkDeserializer} {bytes : List ℕ} (c : Chunk) (payload : List ℕ) → ChunkFits d c
+      → next d (chunkBytes c) payload .answer ≡ more (length (chunkBytes c))
+      → Taken (next d (chunkBytes c) payload .deserializer) bytes d′
+      → Taken d (chunkBytes c ++ bytes) d′
+
+-- with the n-th byte of the input, after the bytes used before, a part of a chunk has come, and of this chunk something holds
+pub record Settled (part : Chunk → List ℕ) (Holds : ChunkDeserializer → Chunk → Type 0) (start : ChunkDeserializer) (bytes input : List ℕ) (n : ℕ) : Type 0 where
+  pub earlier : List ℕ
+  pub decoder : ChunkDeserializer
   pub chunk : Chunk
-  pub more-wanted : next start before payload .answer ≡ more (length before)
-  pub between : next start before payload .deserializer .reader .stage ≡ Csid
-  pub fits : HeadFits (next start before payload .deserializer) chunk
-  pub come : bytes ++ take n input ≡ before ++ part chunk
+  pub taken-before : Taken start earlier decoder
+  pub fits : HeadFits decoder chunk
+  pub come : bytes ++ take n input ≡ earlier ++ part chunk
   pub within : n ≤ length input
-  pub holds : Holds (next start before payload .deserializer) chunk
+  pub holds : Holds decoder chunk
 
 -- a decoder that is closed with a number, and otherwise the same
 abbrev pub closedWith : ℕ → ChunkDeserializer → ChunkDeserializer

@@ -66,7 +66,7 @@ Call k Holds =
 abbrev pub CallAt : (Chunk → List ℕ) → ℕ → (ChunkDeserializer → Chunk → Type 0) → Type 0
 CallAt part k Holds =
     (start : ChunkDeserializer) (bytes : List ℕ) (d : ChunkDeserializer) → Open start bytes d → (input payload : List ℕ) → Bytes input → (n : ℕ)
-    → Row (next d input payload .answer ≡ refused k n) (Settled part Holds start bytes input payload n unless (length payload < d .room)) (Closed k d input payload n)
+    → Row (next d input payload .answer ≡ refused k n) (Settled part Holds start bytes input n unless (length payload < d .room)) (Closed k d input payload n)
 
 pub record RefusalTable : Type 0 where
   -- 1 | message to encode has no payload | all as before, 0 bytes
