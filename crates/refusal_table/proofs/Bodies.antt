@@ -1,11 +1,11 @@
 -- The refusals of user control bodies: the code is one of nine, and each of them says how many bytes it needs.
-use Prim.Native.Nat.{ℕ, _+_, _*_, _<_}
-use mathlib.Core.Bool.{Bool, true, false, cond, not, _&&_, _||_}
+use Prim.Native.Nat.{ℕ, _<_}
+use mathlib.Core.Bool.{Bool, true, false, cond, not}
 use mathlib.Core.List.{List, [], _∷_}
 use mathlib.Core.Logic.{_↔_, _≢_, _⊎_, inl, inr, ⊎-elim}
-use mathlib.Core.Path.{_≡_, refl, sym}
+use mathlib.Core.Path.{_≡_, refl}
 use native.Mathlib.Omega.{arith}
-use lib.Dec.{eqb, ltb}
+use lib.Dec.{eqb}
 use lib.ListN.{drop, length}
 use borrow.Author.Tests.{eqb-false, eqb-true, ne-eqb}
 use Rattle.fields.specs.Output.{over}
@@ -15,9 +15,9 @@ use Rattle.user_control.specs.Body.{body}
 use Rattle.user_control.specs.Reading.{bodyLength, codeIn, count, known, numbersIn, reading, short}
 use Rattle.user_control.specs.Writing.{lacks, leaves, writing}
 use Rattle.refusal_table.specs.Conditions.{fifteen, sixteen}
-use Rattle.refusal_table.specs.Table.{ReadBody, WriteBody}
-use Rattle.refusal_table.specs.Terms.{OneOf, Row, _unless_}
-use Rattle.refusal_table.proofs.Deciding.{Decides, both, equal, here, in-words, later, less, listed, neither, not-decides, one-of}
+use Rattle.refusal_table.specs.Table.{WriteBody}
+use Rattle.refusal_table.specs.Terms.{OneOf, _unless_}
+use Rattle.refusal_table.proofs.Deciding.{Decides, both, here, in-words, later, less, listed, neither, not-decides, one-of}
 
 -- an answer of another number, and one that is no refusal
 other : (m k : ℕ) → m ≢ k → refused m ≢ refused k

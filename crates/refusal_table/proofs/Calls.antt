@@ -1,5 +1,5 @@
 -- The rows of a call: by cutting, it is the end of one run over all bytes since the decoder's start, and that run is traced to a chunk.
-use Prim.Native.Nat.{ℕ, zero, suc, _+_, _-_, _≤_, _<_}
+use Prim.Native.Nat.{ℕ, _+_, _-_, _≤_, _<_}
 use mathlib.Core.Bool.{Bool, true, false, _&&_}
 use mathlib.Core.List.{List, [], _∷_, _++_, append-assoc}
 use mathlib.Core.Logic.{_↔_, _≢_, inl, inr}
@@ -8,7 +8,7 @@ use native.Mathlib.Omega.{arith}
 use lib.Dec.{eqb, ltb}
 use lib.Seq.{take-append-add, take-at}
 use lib.ListN.{drop, length, length-append, length-take, take, take-append-drop}
-use borrow.Author.Tests.{ltb-false, ltb-true}
+use borrow.Author.Tests.{eqb-false, eqb-true, ltb-false, ltb-true}
 use Rattle.fields.specs.Endian.{Bytes}
 use Rattle.chunk_header.specs.Layout.{Chunk}
 use Rattle.deserializer.specs.declared.ChunkDeserializer.{ChunkDeserializer}
@@ -17,22 +17,22 @@ use Rattle.deserializer.specs.declared.reader.Stage.the-variants.{Csid}
 use Rattle.deserializer.specs.Answer.{Listed, message, more, refused}
 use Rattle.deserializer.specs.Call.{Outcome, next, outcome, run}
 use Rattle.deserializer.specs.Told.{atStart, between}
-use Rattle.deserializer.proofs.Cut.{message-not-more, refused-not-more, shift}
+use Rattle.deserializer.proofs.Cut.{refused-not-more, shift}
 use Rattle.deserializer.proofs.Heading.{starts}
 use Rattle.deserializer.proofs.Progress.{run-uses}
-use Rattle.deserializer.proofs.Reached.{Reached, next-reached}
 use Rattle.deserializer.proofs.Runs.{next-runs, next-short}
 use Rattle.deserializer.proofs.Sound.{clash}
-use Rattle.refusal_table.specs.History.{Closed, Open, Settled, closedWith}
-use Rattle.refusal_table.specs.Table.{Call, CallAt}
-use Rattle.refusal_table.specs.Terms.{OneOf, Row, _unless_}
+use Rattle.refusal_table.specs.Conditions.{Inside}
+use Rattle.refusal_table.specs.History.{Closed, Open, Settled}
+use Rattle.refusal_table.specs.Table.{Call, CallAt, InsideMeans}
+use Rattle.refusal_table.specs.Terms.{OneOf}
 use Rattle.refusal_table.proofs.Closes.{ClosedAt, closed-at}
 use Rattle.refusal_table.proofs.Deciding.{listed}
 use Rattle.refusal_table.proofs.Fates.{refused-at}
-use Rattle.refusal_table.proofs.Opened.{Leads, Opened, Same, bytes-append, follows, from, is-open, opened-of, same-room}
-use Rattle.refusal_table.proofs.Settling.{At, Settles, numbers}
-use Rattle.refusal_table.proofs.Standing.{more-not-message, refused-not-message}
-use Rattle.refusal_table.proofs.Tracing.{Traced, taken-led, traces}
+use Rattle.refusal_table.proofs.Opened.{Leads, Opened, bytes-append, follows, from, is-open, opened-of, same-room}
+use Rattle.refusal_table.proofs.Settling.{Settles, numbers}
+use Rattle.refusal_table.proofs.Standing.{refused-not-message, run-stood}
+use Rattle.refusal_table.proofs.Tracing.{Led, Traced, taken-led, traces}
 
 -- a decoder that stands between messages stands between chunks
 between-chunks : (stage : Stage) (t : Bool) → (atStart stage && t) ≡ true → stage ≡ Csid
@@ -56,6 +56,9 @@ counted o a k m = by-answer (o .answer) refl
 cut-at : (a b x rest : List ℕ) (n : ℕ) → a ++ b ≡ x ++ rest → length a + n ≡ length x → a ++ take n b ≡ x
 cut-at a b x rest n h l = sym (take-append-add a b n) ∙ ap (take (length a + n)) h ∙ take-at x rest (length a + n) (sym l)
 
+starts-between : {start : ChunkDeserializer} {bytes : List ℕ} {d : ChunkDeserializer} → Opened start bytes d → start .reader .stage ≡ Csid
+starts-between {start} o = between-chunks (start .reader .stage) (eqb (start .reader .message .id) 0) (o .starts)
+
 -- a call of an open decoder with a long enough buffer
 module _ {start : ChunkDeserializer} {bytes : List ℕ} {d : ChunkDeserializer} (o : Opened start bytes d) (input payload : List ℕ)
     (long : d .room ≤ length payload) where
@@ -69,14 +72,11 @@ module _ {start : ChunkDeserializer} {bytes : List ℕ} {d : ChunkDeserializer} 
       ∙ from input d (run bytes start payload 0 .payload) payload (0 + length bytes) .answer
       ∙ ap (λ (o : Outcome). shift (0 + length bytes) o .answer) (sym runs)
 
-  starts-between : start .reader .stage ≡ Csid
-  starts-between = between-chunks (start .reader .stage) (eqb (start .reader .message .id) 0) (o .starts)
-
   module _ (are-bytes : Bytes input) (k n : ℕ) (h : next d input payload .answer ≡ refused k n) where
     traced : Traced start (bytes ++ input) 0 k (0 + length bytes + n)
     traced =
         traces (bytes ++ input) start payload 0 k (0 + length bytes + n)
-        (record { reached = o .reached; between = starts-between; is-open = o .open-at-start; long = omega (arith, same-room o) })
+        (record { reached = o .reached; between = starts-between o; is-open = o .open-at-start; long = omega (arith, same-room o) })
         (bytes-append bytes input (o .are-bytes) are-bytes)
         (in-one-run ∙ (rw h))
 
@@ -130,7 +130,7 @@ module _ {start : ChunkDeserializer} {bytes : List ℕ} {d : ChunkDeserializer} 
       → Settled part Holds start bytes input n
       → next d input payload .answer ≡ refused k n
   gives part k Holds n nz s t =
-      let led = taken-led (t .taken-before) (o .reached) starts-between (o .open-at-start) in
+      let led = taken-led (t .taken-before) (o .reached) (starts-between o) (o .open-at-start) in
       let p = part (t .chunk) in
       let x = t .earlier in
       let rest = drop n input in
@@ -154,6 +154,27 @@ module _ {start : ChunkDeserializer} {bytes : List ℕ} {d : ChunkDeserializer} 
           let a : length (bytes ++ take n input) ≡ length bytes + n = simp (length-append, length-take) (omega arith) in
           let b : length (x ++ p) ≡ length x + length p = simp length-append in
           sym a ∙ ap length h ∙ b
+
+-- inside a message, after whole chunks of it
+pub inside-means : InsideMeans
+unfolding run
+inside-means start bytes d h₀ earlier decoder t = by-bytes earlier (led .leads [] 0)
+  where
+    o : Opened start bytes d
+    o = opened-of h₀
+
+    led : Led start earlier decoder
+    led = taken-led t (o .reached) (starts-between o) (o .open-at-start)
+
+    by-bytes : (a : List ℕ) → Leads start a decoder [] 0 → Inside decoder ↔ 0 < length a
+    by-bytes [] l =
+        let b : between (decoder .reader) ≡ true = rw (l .leaves) at (o .starts) in
+        (λ i. absurd (i (eqb-true (decoder .reader .message .id) 0 (rw (led .between) at b))), λ h. absurd (omega arith))
+    by-bytes (x ∷ a) l =
+        let b : between (decoder .reader) ≡ false =
+        rw (l .leaves) at (run-stood a x start [] 0 (o .reached) .wanted (0 + length (x ∷ a)) (l .wants))
+        in
+        (λ i. omega arith, λ h. eqb-false (decoder .reader .message .id) 0 (rw (led .between) at b))
 
 -- a call that is refused 7, and one whose buffer is long enough
 short-or-long : (d : ChunkDeserializer) (payload : List ℕ) {A : Type 0} → (length payload < d .room → A) → (d .room ≤ length payload → A) → A

@@ -1,13 +1,12 @@
 -- What the basic header and the header of a chunk settle: the tests of the definition decide the conditions of rows 9 to 14, in their order.
-use Prim.Native.Nat.{ℕ, _*_, _≤_, _<_}
+use Prim.Native.Nat.{ℕ, _<_}
 use mathlib.Core.Bool.{Bool, true, false, cond, not, _&&_}
 use mathlib.Core.List.{List, [], _∷_}
 use mathlib.Core.Logic.{_↔_, _≢_, _⊎_, inl, inr, ⊎-elim}
 use mathlib.Core.Path.{_≡_, refl, sym, ap, _∙_}
 use native.Mathlib.Omega.{arith}
 use lib.Dec.{eqb, ltb}
-use lib.ListN.{getD}
-use borrow.Author.Tests.{eq-eqb, eqb-false, eqb-true, lt-ltb, ltb-false, ltb-true, ne-eqb}
+use borrow.Author.Tests.{eq-eqb, eqb-false, lt-ltb, ltb-false, ltb-true, ne-eqb}
 use Rattle.chunk_header.specs.Layout.{Chunk, Form, one, two, three, Header, type0, type1, type2, type3, Extended, absent, present, format}
 use Rattle.deserializer.specs.declared.ChunkDeserializer.{ChunkDeserializer}
 use Rattle.deserializer.specs.declared.rows.Row.{Row}
@@ -17,7 +16,7 @@ use Rattle.deserializer.specs.Rows.{find, free, rowAt}
 use Rattle.deserializer.proofs.Reached.{Reached}
 use Rattle.deserializer.proofs.RowLaws.{Distinct, find-none, find-tells}
 use Rattle.deserializer.proofs.Sound.{clash, found}
-use Rattle.refusal_table.specs.Conditions.{AllUsed, Below, HasRow, Inside, Over, Repeats, basic, eleven, fourteen, head, headFor12, nine, ten, theRow, thirteen, timeOf, twelve, type}
+use Rattle.refusal_table.specs.Conditions.{AllUsed, Below, HasRow, Inside, Over, Repeats, basic, eleven, fourteen, nine, ten, theRow, thirteen, timeOf, type}
 use Rattle.refusal_table.specs.Terms.{OneOf, _unless_}
 use Rattle.refusal_table.proofs.Deciding.{Decides, both, both-then, equal, here, in-words, joined, later, less, neither, not-decides, not-not, where-not, where-so}
 
@@ -232,10 +231,9 @@ module _ {I L P P′ Q : Type 0} {i a b c : Bool} (within : Decides i I) (late :
   three-14 =
       let h = where-not (Is 14) i within (neither (Is 14) a (eqb-false 12 14 refl) (eqb-false 0 14 refl))
       (λ o. later (Is 14) b p (eqb-false 13 14 refl) (here (Is 14) c (q o) refl (eqb-false 0 14 refl)))
-      in
-      (
+      in (
         λ e. let x = h .0 e in ((x .0, x .1 .0), λ y. x .1 .1 (y .1, y .2)),
-        λ x. h .1 (x .0 .0, (x .0 .1, λ y. x .1 (x .0 .0, y .0, y .1)))
+        λ x. h .1 (x .0 .0, (x .0 .1, λ y. x .1 (x .0 .0, y .0, y .1))),
       )
 
   three-others : (k : ℕ) → by-header i a b c ≡ k → OneOf k (0 ∷ 12 ∷ 13 ∷ 14 ∷ [])

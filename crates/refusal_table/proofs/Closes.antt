@@ -1,5 +1,5 @@
 -- What a closing refusal leaves: the bytes before the one that settles it go on as ever, and that one changes the closed number and stores nothing.
-use Prim.Native.Nat.{ℕ, zero, suc, _+_, _-_}
+use Prim.Native.Nat.{ℕ, suc, _+_, _-_}
 use mathlib.Core.Bool.{Bool, true, false, cond}
 use mathlib.Core.List.{List, [], _∷_}
 use mathlib.Core.Path.{_≡_, refl, sym, ap, _∙_}
@@ -11,7 +11,7 @@ use Rattle.deserializer.specs.declared.reader.Event.{Event}
 use Rattle.deserializer.specs.declared.reader.Event.the-variants.{Go, Chunk, Message, Refuse}
 use Rattle.deserializer.specs.declared.reader.Reader.{Reader}
 use Rattle.deserializer.specs.declared.reader.Stepped.{Stepped}
-use Rattle.deserializer.specs.Answer.{message, more, refused}
+use Rattle.deserializer.specs.Answer.{message, refused}
 use Rattle.deserializer.specs.Call.{Outcome, after, end, run, stepOf, writes}
 use Rattle.deserializer.specs.Machine.{ended, go, inPayload, landed, paid, paused, pays, refuse, stepped}
 use Rattle.deserializer.proofs.Closing.{refusal-only-closes}

@@ -1,7 +1,7 @@
 -- What becomes of a chunk that comes to a decoder between chunks: it is refused at the end of a part of it, or taken, or it ends its message.
-use Prim.Native.Nat.{ℕ, _+_, _≤_, _<_}
+use Prim.Native.Nat.{ℕ, _+_, _<_}
 use mathlib.Core.Bool.{Bool, true, false}
-use mathlib.Core.List.{List, [], _∷_, _++_, append-assoc}
+use mathlib.Core.List.{List, [], _++_, append-assoc}
 use mathlib.Core.Logic.{_≢_}
 use mathlib.Core.Path.{_≡_, refl, sym, ap, _∙_}
 use native.Mathlib.Omega.{arith}
@@ -15,7 +15,7 @@ use Rattle.deserializer.specs.declared.reader.Event.{Event}
 use Rattle.deserializer.specs.declared.reader.Event.the-variants.{Message}
 use Rattle.deserializer.specs.declared.reader.Stage.the-variants.{Csid}
 use Rattle.deserializer.specs.Answer.{Listed, message, more, refused}
-use Rattle.deserializer.specs.Call.{Outcome, after, end, run}
+use Rattle.deserializer.specs.Call.{after, end, run}
 use Rattle.deserializer.specs.Chunk.{ChunkFits, HeadFits, basicRefused, got, header, headerRefused}
 use Rattle.deserializer.proofs.Accepts.{accepts, refuses-basic, refuses-header}
 use Rattle.deserializer.proofs.Reached.{Reached, run-reached}

@@ -2,14 +2,14 @@
 use Prim.Native.Nat.{ℕ}
 use mathlib.Core.List.{List, [], _∷_}
 use mathlib.Core.Logic.{_≢_, _⊎_, inl, inr, ⊎-elim}
-use mathlib.Core.Path.{_≡_, refl, sym, ap, _∙_}
+use mathlib.Core.Path.{_≡_, refl, ap, _∙_}
 use Rattle.fields.specs.Endian.{Bytes}
 use Rattle.deserializer.specs.declared.ChunkDeserializer.{ChunkDeserializer}
 use Rattle.deserializer.specs.Answer.{Listed, message, more, refused}
-use Rattle.deserializer.specs.Call.{Outcome, next}
+use Rattle.deserializer.specs.Call.{next}
 use Rattle.deserializer.specs.Told.{Outcome as Told, Size, made, refused as no-size, taken, told}
 use Rattle.deserializer.proofs.Runs.{next-closed}
-use Rattle.refusal_table.specs.History.{Closed, Made, Open, new, fed, sized, opened, resized, handed, wanted}
+use Rattle.refusal_table.specs.History.{Made, Open, new, fed, sized, opened, resized, handed, wanted}
 use Rattle.refusal_table.specs.Terms.{OneOf}
 use Rattle.refusal_table.proofs.Calls.{call-7, call-closes, call-no-other}
 use Rattle.refusal_table.proofs.Deciding.{listed}

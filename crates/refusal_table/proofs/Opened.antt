@@ -14,13 +14,13 @@ use Rattle.fields.specs.Endian.{Bytes}
 use Rattle.deserializer.specs.declared.ChunkDeserializer.{ChunkDeserializer}
 use Rattle.deserializer.specs.declared.reader.Event.{Event}
 use Rattle.deserializer.specs.declared.reader.Event.the-variants.{Go, Chunk, Message, Refuse}
-use Rattle.deserializer.specs.Answer.{Listed, message, more, refused}
-use Rattle.deserializer.specs.Call.{Outcome, after, end, next, outcome, run, stepOf, writes}
+use Rattle.deserializer.specs.Answer.{message, more, refused}
+use Rattle.deserializer.specs.Call.{Outcome, after, end, next, run, stepOf, writes}
 use Rattle.deserializer.specs.Told.{between, fresh, made, maxRoom, maxSize, outcome as telling, refused as no-size, sized, taken, told}
-use Rattle.deserializer.proofs.Cut.{Kept, goOn, has-run, message-not-more, refused-not-more, run-append, run-kept, run-shift, shift}
+use Rattle.deserializer.proofs.Cut.{has-run, run-append, run-kept, run-shift, shift}
 use Rattle.deserializer.proofs.Progress.{more-uses-all}
 use Rattle.deserializer.proofs.Reached.{Reached, made-reached, next-reached, run-reached, told-reached}
-use Rattle.deserializer.proofs.Runs.{next-closed, next-runs, next-short}
+use Rattle.deserializer.proofs.Runs.{next-runs, next-short}
 use Rattle.refusal_table.specs.History.{Open, opened, resized, handed, wanted}
 use Rattle.refusal_table.proofs.Standing.{more-not-message, refused-not-message, run-stood}
 

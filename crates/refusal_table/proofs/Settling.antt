@@ -117,10 +117,9 @@ tells-14 : (d : ChunkDeserializer) (c : Chunk) → Reached d → HeadFits d c �
 tells-14 d c reached fits p (by-basic e) = absurd (listed 14 (0 ∷ 9 ∷ 10 ∷ 11 ∷ 12 ∷ []) .no refl (basic-others d c 14 e))
 tells-14 d c reached fits p (by-head z e) =
     let h = header-14 d c reached fits z .0 e in
-    let n = none-of-four d c z (h .0 .0) in
-    (
+    let n = none-of-four d c z (h .0 .0) in (
       (h .0, ⊎-elim (λ x. n (inl x)) (⊎-elim (λ x. n (inr (inl x))) (⊎-elim (λ x. n (inr (inr (inl x)))) (⊎-elim (λ x. n (inr (inr (inr x)))) (h .1))))),
-      refl
+      refl,
     )
 
 pub settles-14 : Settles head 14 (λ d c. fourteen d c unless (nine d c ⊎ ten d c ⊎ eleven d c ⊎ twelve d c ⊎ thirteen d c))

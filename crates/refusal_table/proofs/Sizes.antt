@@ -2,18 +2,18 @@
 use Prim.Native.Nat.{ℕ, _<_}
 use mathlib.Core.Bool.{Bool, true, false, cond, not, _||_}
 use mathlib.Core.List.{List, [], _∷_}
-use mathlib.Core.Logic.{_↔_, _≢_, _⊎_, inl, inr}
+use mathlib.Core.Logic.{_≢_, _⊎_, inl}
 use mathlib.Core.Path.{_≡_, refl}
 use native.Mathlib.Omega.{arith}
 use lib.Dec.{eqb, ltb}
 use lib.ListN.{length}
 use borrow.Author.Tests.{eq-eqb, eqb-false, eqb-true, ne-eqb}
 use Rattle.deserializer.specs.declared.ChunkDeserializer.{ChunkDeserializer}
-use Rattle.deserializer.specs.Told.{Outcome, Size, between, fresh, made, maxRoom, maxSize, outcome, refused, sized, taken, told}
+use Rattle.deserializer.specs.Told.{Outcome, between, fresh, made, maxRoom, maxSize, outcome, refused, sized, taken, told}
 use Rattle.deserializer.proofs.Sound.{clash}
 use Rattle.refusal_table.specs.History.{Open}
 use Rattle.refusal_table.specs.Table.{New}
-use Rattle.refusal_table.specs.Terms.{OneOf, Row}
+use Rattle.refusal_table.specs.Terms.{OneOf}
 use Rattle.refusal_table.proofs.Deciding.{Decides, equal, here, less, one-of}
 use Rattle.refusal_table.proofs.Opened.{Opened, is-open, opened-of, stands, stands-at-start}
 use Rattle.refusal_table.proofs.Three.{Gives, Three, three}

@@ -1,6 +1,4 @@
 -- Document 01's table, in its order: each row is proved in the file of its entry point.
-use Prim.Native.Nat.{ℕ}
-use mathlib.Core.List.{[], _∷_}
 use native.Mathlib.Omega.{arith}
 use Rattle.deserializer.proofs.Runs.{next-closed}
 use Rattle.refusal_table.specs.Table.{ClosedStays, NoOther, RefusalTable}

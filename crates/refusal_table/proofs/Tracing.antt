@@ -162,8 +162,8 @@ module _ (d : ChunkDeserializer) (full payload : List ℕ) (n k m : ℕ) (reache
 traced-step : (full : List ℕ) (d : ChunkDeserializer) (buffer payload : List ℕ) (n k m : ℕ) → Ready d buffer → Bytes full
     → run full d payload n .answer ≡ refused k m
     → ((rest : List ℕ) (d′ : ChunkDeserializer) (payload′ : List ℕ) (n′ : ℕ) → length rest < length full → Ready d′ buffer → Bytes rest
-        → run rest d′ payload′ n′ .answer ≡ refused k m
-        → Traced d′ rest n′ k m)
+    → run rest d′ payload′ n′ .answer ≡ refused k m
+    → Traced d′ rest n′ k m)
     → Traced d full n k m
 traced-step full d buffer payload n k m ready bytes h later = by-chunk (covers d full bytes)
   where

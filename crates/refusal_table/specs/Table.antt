@@ -19,8 +19,8 @@ use Rattle.deserializer.specs.declared.ChunkDeserializer.{ChunkDeserializer}
 use Rattle.deserializer.specs.Answer.{refused}
 use Rattle.deserializer.specs.Call.{next, outcome}
 use Rattle.deserializer.specs.Told.{fresh, made, outcome as telling, refused as no-size, told}
-use Rattle.refusal_table.specs.Conditions.{nine, ten, eleven, twelve, thirteen, fourteen, fifteen, sixteen, basic, head, headFor12}
-use Rattle.refusal_table.specs.History.{Closed, Made, Open, Settled}
+use Rattle.refusal_table.specs.Conditions.{Inside, nine, ten, eleven, twelve, thirteen, fourteen, fifteen, sixteen, basic, head, headFor12}
+use Rattle.refusal_table.specs.History.{Closed, Made, Open, Settled, Taken}
 use Rattle.refusal_table.specs.Terms.{OneOf, Row, _unless_}
 
 -- a number at an entry point, by the promises: at the encoder's calls, which leave "all as before, 0 bytes" ..
@@ -112,6 +112,13 @@ pub record RefusalTable : Type 0 where
 pub record ClosedStays : Type 0 where
   pub call : (d : ChunkDeserializer) → d .closed ≢ 0 → (input payload : List ℕ) → next d input payload ≡ outcome (refused (d .closed) 0) d payload
   pub tell-size : (d : ChunkDeserializer) → d .closed ≢ 0 → (size : ℕ) → told d size ≡ telling (no-size (d .closed)) d
+
+-- "inside a message" is said of a decoder: it is so exactly where a chunk was taken since the last message ended
+abbrev pub InsideMeans : Type 0
+InsideMeans =
+    (start : ChunkDeserializer) (bytes : List ℕ) (d : ChunkDeserializer) → Open start bytes d → (earlier : List ℕ) (decoder : ChunkDeserializer)
+    → Taken start earlier decoder
+    → Inside decoder ↔ 0 < length earlier
 
 -- and no entry point gives a number that the table does not name for it; a decoder that calls can make is open, or closed with one that closes
 pub record NoOther : Type 0 where
