@@ -236,7 +236,7 @@ extended-of row bs h k = by-field (eqb (row .«timestamp_field») maxField) refl
         record { extended = present (x .value); fits = (eqb-true _ _ e, x .small); rest = x .rest; is = x .is }
     by-field false e = record { extended = absent; fits = eqb-false _ _ e; rest = bs; is = refl }
 
-bytes-append : (xs ys : List ℕ) → Bytes xs → Bytes ys → Bytes (xs ++ ys)
+pub bytes-append : (xs ys : List ℕ) → Bytes xs → Bytes ys → Bytes (xs ++ ys)
 bytes-append [] ys h k i = k i
 bytes-append (x ∷ xs) ys h k zero = h 0
 bytes-append (x ∷ xs) ys h k (suc i) = bytes-append xs ys (λ j. h (suc j)) k i

@@ -83,7 +83,7 @@ landed-next r k =
     rw (e, f)
 
 -- payload is not refused
-landed-not-refused : (r : Reader) (n : ℕ) → isRefusal (landed r n .event) ≡ false
+pub landed-not-refused : (r : Reader) (n : ℕ) → isRefusal (landed r n .event) ≡ false
 unfolding landed
 landed-not-refused r n = by-cases (eqb (r .chunk .left - n) 0) (ltb (r .message .got + n) (r .chunk .header .«message_length»)) (paid r (r .message .got + n) (r .chunk .left - n))
   where

@@ -17,6 +17,7 @@ use Rattle.deserializer.specs.declared.reader.Stage.the-variants.{Csid}
 use Rattle.deserializer.specs.Answer.{Listed, message, more, refused}
 use Rattle.deserializer.specs.Call.{Outcome, next, outcome, run}
 use Rattle.deserializer.specs.Told.{atStart, between}
+use Rattle.deserializer.proofs.Covers.{bytes-append}
 use Rattle.deserializer.proofs.Cut.{refused-not-more, shift}
 use Rattle.deserializer.proofs.Heading.{starts}
 use Rattle.deserializer.proofs.Progress.{run-uses}
@@ -29,7 +30,7 @@ use Rattle.refusal_table.specs.Terms.{OneOf}
 use Rattle.refusal_table.proofs.Closes.{ClosedAt, closed-at}
 use Rattle.refusal_table.proofs.Deciding.{listed}
 use Rattle.refusal_table.proofs.Fates.{refused-at}
-use Rattle.refusal_table.proofs.Opened.{Leads, Opened, bytes-append, follows, from, is-open, opened-of, same-room}
+use Rattle.refusal_table.proofs.Opened.{Leads, Opened, follows, from, is-open, opened-of, same-room}
 use Rattle.refusal_table.proofs.Settling.{Settles, numbers}
 use Rattle.refusal_table.proofs.Standing.{refused-not-message, run-stood}
 use Rattle.refusal_table.proofs.Tracing.{Led, Traced, taken-led, traces}

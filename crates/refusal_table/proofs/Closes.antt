@@ -16,19 +16,12 @@ use Rattle.deserializer.specs.Call.{Outcome, after, end, run, stepOf, writes}
 use Rattle.deserializer.specs.Machine.{ended, go, inPayload, landed, paid, paused, pays, refuse, stepped}
 use Rattle.deserializer.proofs.Closing.{refusal-only-closes}
 use Rattle.deserializer.proofs.Cut.{refused-not-more}
+use Rattle.deserializer.proofs.Runs.{landed-not-refused}
+use Rattle.deserializer.proofs.Sound.{clash}
 use Rattle.refusal_table.specs.History.{closedWith}
 use Rattle.refusal_table.proofs.Standing.{refused-not-message}
 
--- a byte of payload is not refused, and no other byte is stored
-landed-goes : (r : Reader) (n k : ℕ) → landed r n .event ≡ Refuse k → ⊥
-unfolding landed
-landed-goes r n k = by-cases (eqb (r .chunk .left - n) 0) (ltb (r .message .got + n) (r .chunk .header .«message_length»)) (paid r (r .message .got + n) (r .chunk .left - n))
-  where
-    by-cases : (t u : Bool) (r′ : Reader) → cond t (cond u (paused r′ (r′ .message .got)) (ended r′)) (go r′) .event ≡ Refuse k → ⊥
-    by-cases true true r′ h = let z : _≡_ {A = ℕ} 0 1 = cc in omega arith
-    by-cases true false r′ h = let z : _≡_ {A = ℕ} 0 1 = cc in omega arith
-    by-cases false u r′ h = let z : _≡_ {A = ℕ} 0 1 = cc in omega arith
-
+-- payload is not refused, and no other byte is stored
 refused-stores-nothing : (d : ChunkDeserializer) (payload : List ℕ) (x k : ℕ) → stepOf d x .event ≡ Refuse k → writes d payload x ≡ payload
 unfolding stepOf writes
 refused-stores-nothing d payload x k =
@@ -36,7 +29,7 @@ refused-stores-nothing d payload x k =
   where
     by-cases : (t u : Bool) (s : Stepped) → cond t (cond u (landed (d .reader) 1) (refuse (d .reader) 255)) s .event ≡ Refuse k
         → cond t (cond u (set payload (d .reader .message .got) x) payload) payload ≡ payload
-    by-cases true true s h = absurd (landed-goes (d .reader) 1 k h)
+    by-cases true true s h = clash (landed-not-refused (d .reader) 1) (rw h)
     by-cases true false s h = refl
     by-cases false u s h = refl
 

@@ -17,6 +17,7 @@ use Rattle.deserializer.specs.declared.reader.Event.the-variants.{Go, Chunk, Me
 use Rattle.deserializer.specs.Answer.{message, more, refused}
 use Rattle.deserializer.specs.Call.{Outcome, after, end, next, run, stepOf, writes}
 use Rattle.deserializer.specs.Told.{between, fresh, made, maxRoom, maxSize, outcome as telling, refused as no-size, sized, taken, told}
+use Rattle.deserializer.proofs.Covers.{bytes-append}
 use Rattle.deserializer.proofs.Cut.{has-run, run-append, run-kept, run-shift, shift}
 use Rattle.deserializer.proofs.Progress.{more-uses-all}
 use Rattle.deserializer.proofs.Reached.{Reached, made-reached, next-reached, run-reached, told-reached}
@@ -150,11 +151,6 @@ after-message d input payload type stream time long used r c h =
         → (between (run i d payload 0 .deserializer .reader) ≡ true) × (run i d payload 0 .deserializer .closed ≡ 0)
     by-input [] q = more-not-message q
     by-input (x ∷ a) q = let s = run-stood a x d payload 0 r .handed type stream time long used q in (s .0, s .1 ∙ c)
-
-pub bytes-append : (xs ys : List ℕ) → Bytes xs → Bytes ys → Bytes (xs ++ ys)
-bytes-append [] ys h k i = k i
-bytes-append (x ∷ xs) ys h k zero = h 0
-bytes-append (x ∷ xs) ys h k (suc i) = bytes-append xs ys (λ j. h (suc j)) k i
 
 -- and after more wanted its bytes are more
 module _ {start : ChunkDeserializer} {bytes : List ℕ} {d : ChunkDeserializer} (o : Opened start bytes d) (input payload : List ℕ) (used : ℕ)
