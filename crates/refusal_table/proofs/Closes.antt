@@ -1,19 +1,17 @@
 -- What a closing refusal leaves: the bytes before the one that settles it go on as ever, and that one changes the closed number and stores nothing.
-use Prim.Native.Nat.{ℕ, suc, _+_, _-_}
+use Prim.Native.Nat.{ℕ, suc, _+_}
 use mathlib.Core.Bool.{Bool, true, false, cond}
 use mathlib.Core.List.{List, [], _∷_}
 use mathlib.Core.Path.{_≡_, refl, sym, ap, _∙_}
 use native.Mathlib.Omega.{arith}
-use lib.Dec.{eqb, ltb}
 use lib.ListN.{set, take}
 use Rattle.deserializer.specs.declared.ChunkDeserializer.{ChunkDeserializer}
 use Rattle.deserializer.specs.declared.reader.Event.{Event}
 use Rattle.deserializer.specs.declared.reader.Event.the-variants.{Go, Chunk, Message, Refuse}
-use Rattle.deserializer.specs.declared.reader.Reader.{Reader}
 use Rattle.deserializer.specs.declared.reader.Stepped.{Stepped}
 use Rattle.deserializer.specs.Answer.{message, refused}
 use Rattle.deserializer.specs.Call.{Outcome, after, end, run, stepOf, writes}
-use Rattle.deserializer.specs.Machine.{ended, go, inPayload, landed, paid, paused, pays, refuse, stepped}
+use Rattle.deserializer.specs.Machine.{inPayload, landed, pays, refuse, stepped}
 use Rattle.deserializer.proofs.Closing.{refusal-only-closes}
 use Rattle.deserializer.proofs.Cut.{refused-not-more}
 use Rattle.deserializer.proofs.Runs.{landed-not-refused}

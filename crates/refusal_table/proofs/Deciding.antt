@@ -15,15 +15,6 @@ pub record Decides (t : Bool) (P : Type 0) : Type 0 where
   pub yes : t ≡ true → P
   pub no : t ≡ false → ¬ P
 
--- the test of a condition that holds, and of one that does not
-pub is-true : {P : Type 0} {t : Bool} → Decides t P → P → t ≡ true
-is-true {t = true} d p = refl
-is-true {t = false} d p = absurd (d .no refl p)
-
-pub is-false : {P : Type 0} {t : Bool} → Decides t P → ¬ P → t ≡ false
-is-false {t = true} d n = absurd (n (d .yes refl))
-is-false {t = false} d n = refl
-
 -- numbers that are equal, and that are less
 pub equal : (a b : ℕ) → Decides (eqb a b) (a ≡ b)
 equal a b = record { yes = eqb-true a b; no = eqb-false a b }

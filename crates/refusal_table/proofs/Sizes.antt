@@ -11,6 +11,7 @@ use borrow.Author.Tests.{eq-eqb, eqb-false, eqb-true, ne-eqb}
 use Rattle.deserializer.specs.declared.ChunkDeserializer.{ChunkDeserializer}
 use Rattle.deserializer.specs.Told.{Outcome, between, fresh, made, maxRoom, maxSize, outcome, refused, sized, taken, told}
 use Rattle.deserializer.proofs.Sound.{clash}
+use Rattle.refusal_table.specs.Conditions.{eight}
 use Rattle.refusal_table.specs.History.{Open}
 use Rattle.refusal_table.specs.Table.{New}
 use Rattle.refusal_table.specs.Terms.{OneOf}
@@ -68,18 +69,18 @@ unfolding told
 told-open d size c = rw (eq-eqb (d .closed) 0 c)
 
 -- "after the first byte of a message and before its end"
-amid : {start d : ChunkDeserializer} {bytes : List ℕ} → Opened start bytes d → Decides (not (between (d .reader))) (0 < length bytes)
+amid : {start d : ChunkDeserializer} {bytes : List ℕ} → Opened start bytes d → Decides (not (between (d .reader))) (eight bytes)
 amid {start} {d} {bytes} o = record { yes = yes-amid; no = λ e h. clash (rw (stands o h) at e) refl }
   where
-    yes-amid : not (between (d .reader)) ≡ true → 0 < length bytes
+    yes-amid : not (between (d .reader)) ≡ true → eight bytes
     yes-amid e = by-length (eqb (length bytes) 0) refl
       where
-        by-length : (t : Bool) → eqb (length bytes) 0 ≡ t → 0 < length bytes
+        by-length : (t : Bool) → eqb (length bytes) 0 ≡ t → eight bytes
         by-length true q = clash refl (rw (stands-at-start o (eqb-true (length bytes) 0 q)) at e)
         by-length false q = let n = eqb-false (length bytes) 0 q in omega arith
 
 pub told-rows : (start : ChunkDeserializer) (bytes : List ℕ) (d : ChunkDeserializer) → Open start bytes d → (size : ℕ)
-    → Three Is (AsBefore d) 3 4 8 (told d size) (size ≡ 0) (2147483647 < size) (0 < length bytes)
+    → Three Is (AsBefore d) 3 4 8 (told d size) (size ≡ 0) (2147483647 < size) (eight bytes)
 told-rows start bytes d o size =
     let k = opened-of o in
     rw (told-open d size (is-open k))

@@ -1,4 +1,4 @@
--- When 9 to 16 are given, as the table has it: 9 to 14 of a chunk that begins where a decoder stands between chunks, 15 and 16 of a body.
+-- When 8 to 16 are given, as the table has it: 8 of bytes, 9 to 14 of a chunk that begins where a decoder stands between chunks, 15 and 16 of a body.
 use Prim.Native.Nat.{ℕ, _<_}
 use mathlib.Core.List.{List, [], _∷_, _++_}
 use mathlib.Core.Logic.{_≢_, _⊎_}
@@ -10,6 +10,10 @@ use Rattle.deserializer.specs.declared.ChunkDeserializer.{ChunkDeserializer}
 use Rattle.deserializer.specs.declared.rows.Row.{Row}
 use Rattle.deserializer.specs.Rows.{rowAt}
 use Rattle.refusal_table.specs.Terms.{OneOf}
+
+-- "after the first byte of a message and before its end": some bytes have come since the last message ended
+abbrev pub eight : List ℕ → Type 0
+eight bytes = 0 < length bytes
 
 -- one of the 64 rows is a stream's
 pub record HasRow (rows : List ℕ) (id : ℕ) : Type 0 where

@@ -19,7 +19,7 @@ use Rattle.deserializer.specs.declared.ChunkDeserializer.{ChunkDeserializer}
 use Rattle.deserializer.specs.Answer.{refused}
 use Rattle.deserializer.specs.Call.{next, outcome}
 use Rattle.deserializer.specs.Told.{fresh, made, outcome as telling, refused as no-size, told}
-use Rattle.refusal_table.specs.Conditions.{Inside, nine, ten, eleven, twelve, thirteen, fourteen, fifteen, sixteen, basic, head, headFor12}
+use Rattle.refusal_table.specs.Conditions.{Inside, eight, nine, ten, eleven, twelve, thirteen, fourteen, fifteen, sixteen, basic, head, headFor12}
 use Rattle.refusal_table.specs.History.{Closed, Made, Open, Settled, Taken}
 use Rattle.refusal_table.specs.Terms.{OneOf, Row, _unless_}
 
@@ -68,6 +68,7 @@ CallAt part k Holds =
     (start : ChunkDeserializer) (bytes : List ℕ) (d : ChunkDeserializer) → Open start bytes d → (input payload : List ℕ) → Bytes input → (n : ℕ)
     → Row (next d input payload .answer ≡ refused k n) (Settled part Holds start bytes input n unless (length payload < d .room)) (Closed k d input payload n)
 
+-- The table. Order, where several hold: `unless`; 1 and 2, or 3 and 4, never hold together
 pub record RefusalTable : Type 0 where
   -- 1 | message to encode has no payload | all as before, 0 bytes
   pub serialize-1 : Serialize 1 (λ s m payload output. length payload ≡ 0)
@@ -90,7 +91,7 @@ pub record RefusalTable : Type 0 where
   -- 7 | payload buffer shorter than the room | all as before, 0 used
   pub call-7 : Call 7 (λ d payload. length payload < d .room)
   -- 8 | decoder told a size after the first byte of a message and before its end | decoder as before
-  pub tell-size-8 : TellSize 8 (λ bytes size. 0 < length bytes unless ((size ≡ 0) ⊎ (2147483647 < size)))
+  pub tell-size-8 : TellSize 8 (λ bytes size. eight bytes unless ((size ≡ 0) ⊎ (2147483647 < size)))
   -- 9 | type 1, 2 or 3 outside a message on a stream with no row | closed
   pub call-9 : CallAt basic 9 nine
   -- 10 | type 0 on a stream with no row, 64 rows used | closed
