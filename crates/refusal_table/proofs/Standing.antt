@@ -3,7 +3,7 @@ use Prim.Native.Nat.{ℕ, _+_, _-_, min}
 use mathlib.Core.Bool.{Bool, true, false, and-false, cond, not}
 use mathlib.Core.List.{List, [], _∷_}
 use mathlib.Core.Logic.{_≢_}
-use mathlib.Core.Path.{_≡_, refl, _∙_}
+use mathlib.Core.Path.{_≡_, refl, sym, _∙_}
 use native.Mathlib.Omega.{arith}
 use lib.Dec.{eqb, leb, ltb}
 use borrow.Author.Tests.{ne-eqb}
@@ -128,13 +128,25 @@ module _ (room size : ℕ) where
       either (leb lacks 1) (whole-stands r n) (going (at r (ExtendedTimestamp n (lacks - 1))) refl)
   field-stands MessagePayload rows r b = refusing r 255
 
+-- a payload is not the start of a chunk
+in-payload-midway : (stage : Stage) → inPayload stage ≡ true → atStart stage ≡ false
+in-payload-midway AtCsid e = sym e
+in-payload-midway (CsidSecond a) e = refl
+in-payload-midway (CsidThird a b) e = refl
+in-payload-midway (InitialTimestamp before lacks) e = refl
+in-payload-midway (MessageLength before lacks) e = refl
+in-payload-midway MessageTypeId e = refl
+in-payload-midway (MessageStreamId before lacks) e = refl
+in-payload-midway (ExtendedTimestamp before lacks) e = refl
+in-payload-midway MessagePayload e = refl
+
 -- a byte of payload, of a chunk whose stream has an id
-landed-stands : (r : Reader) (n : ℕ) → r .chunk .header .id ≢ 0 → Stands (landed r n)
+landed-stands : (r : Reader) (n : ℕ) → inPayload (r .stage) ≡ true → r .chunk .header .id ≢ 0 → Stands (landed r n)
 unfolding landed
-landed-stands r n h =
+landed-stands r n p h =
     let r′ = paid r (r .message .got + n) (r .chunk .left - n) in
     let pause : Stands (paused r′ (r′ .message .got)) = record { says = h } in
-    either (eqb (r′ .chunk .left) 0) (either (ltb (r′ .message .got) (r′ .chunk .header .«message_length»)) pause (ending r′)) (going r′ refl)
+    either (eqb (r′ .chunk .left) 0) (either (ltb (r′ .message .got) (r′ .chunk .header .«message_length»)) pause (ending r′)) (going r′ (in-payload-midway (r .stage) p))
 
 step-stands : (d : ChunkDeserializer) (b : ℕ) → Reached d → Stands (stepOf d b)
 unfolding stepOf
@@ -142,7 +154,7 @@ step-stands d b k = by-stage (inPayload (d .reader .stage)) refl
   where
     by-stage : (t : Bool) → inPayload (d .reader .stage) ≡ t
         → Stands (cond t (cond (pays (d .room) (d .reader)) (landed (d .reader) 1) (refuse (d .reader) 255)) (stepped (d .reader .stage) (d .room) (d .«max_chunk_size») (d .rows) (d .reader) b))
-    by-stage true e = either (pays (d .room) (d .reader)) (landed-stands (d .reader) 1 (k .sound .owns (in-payload-past (d .reader .stage) e) .used)) (refusing (d .reader) 255)
+    by-stage true e = either (pays (d .room) (d .reader)) (landed-stands (d .reader) 1 e (k .sound .owns (in-payload-past (d .reader .stage) e) .used)) (refusing (d .reader) 255)
     by-stage false e = field-stands (d .room) (d .«max_chunk_size») (d .reader .stage) (d .rows) (d .reader) b
 
 -- what a run of at least one byte leaves: it stands between messages after a message, and does not where more is wanted
