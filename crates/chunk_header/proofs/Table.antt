@@ -1,15 +1,15 @@
--- There are four chunk types and four fields, and the type is the top two bits.
-use Prim.Native.Nat.{ℕ, _/_, _<_}
+-- There are four chunk types and four fields of 11 bytes at most, and the type is the top two bits.
+use Prim.Native.Nat.{ℕ, _/_, _<_, _≤_}
 use mathlib.Core.Path.{_≡_, refl}
 use mathlib.Core.Bool.{Bool, true, false, cond}
 use native.Mathlib.Omega.{arith}
 use borrow.Author.Tests.{ltb-true, ltb-false}
-use lib.Dec.{ltb, lit<}
+use lib.Dec.{ltb, lit<, lit≤}
 use Rattle.chunk_header.specs.declared.ChunkHeaderFormat.{ChunkHeaderFormat}
 use Rattle.chunk_header.specs.declared.ChunkHeaderFormat.the-variants.{Full, TimeDeltaWithoutMessageStreamId, TimeDeltaOnly, Empty}
 use Rattle.chunk_header.specs.declared.HeaderField.{HeaderField}
 use Rattle.chunk_header.specs.declared.HeaderField.the-variants.{Timestamp, MessageLength, MessageTypeId, MessageStreamId}
-use Rattle.chunk_header.specs.Table.{typeOf, formatOf, indexOf}
+use Rattle.chunk_header.specs.Table.{typeOf, formatOf, indexOf, fieldLength, headerLength}
 
 pub type-lt : (format : ChunkHeaderFormat) → typeOf format < 4
 type-lt Full = lit< tt
@@ -22,6 +22,14 @@ index-lt Timestamp = lit< tt
 index-lt MessageLength = lit< tt
 index-lt MessageTypeId = lit< tt
 index-lt MessageStreamId = lit< tt
+
+-- a message header has 11 bytes at most
+pub header-most : (f : ChunkHeaderFormat) → headerLength (typeOf f) ≤ 11
+unfolding headerLength fieldLength
+header-most Full = lit≤ tt
+header-most TimeDeltaWithoutMessageStreamId = lit≤ tt
+header-most TimeDeltaOnly = lit≤ tt
+header-most Empty = lit≤ tt
 
 pub type-of-byte : (byte : ℕ) → byte < 256 → typeOf (formatOf byte) ≡ byte / 64
 unfolding formatOf

@@ -221,13 +221,6 @@ starts (ExtendedTimestamp before lacks) e = never (sym e)
 starts MessagePayload e = never (sym e)
 
 -- lengths of headers
-pub header-most : (f : ChunkHeaderFormat) → headerLength (typeOf f) ≤ 11
-unfolding headerLength fieldLength
-header-most Full = lit≤ tt
-header-most TimeDeltaWithoutMessageStreamId = lit≤ tt
-header-most TimeDeltaOnly = lit≤ tt
-header-most Empty = lit≤ tt
-
 pub full-length : (f : ChunkHeaderFormat) → f ≡ Full → 7 ≤ headerLength (typeOf f)
 unfolding headerLength fieldLength
 full-length f e = rw e (lit≤ tt)

@@ -1,7 +1,6 @@
 // The payload of a chunk, copied by stretches.
 ghost use mathlib.Core.Path.{_≡_};
 ghost use Prim.Native.Nat.{_+_, _≤_, _<_};
-ghost use lib.ListN.{length};
 ghost use Rattle.deserializer.specs.Machine.{inPayload, landed as Machine·landed, pays as Machine·pays};
 use crate::parts::ended;
 use crate::parts::go;

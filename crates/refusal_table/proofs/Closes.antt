@@ -9,7 +9,7 @@ use Rattle.deserializer.specs.declared.ChunkDeserializer.{ChunkDeserializer}
 use Rattle.deserializer.specs.declared.reader.Event.{Event}
 use Rattle.deserializer.specs.declared.reader.Event.the-variants.{Go, Chunk, Message, Refuse}
 use Rattle.deserializer.specs.declared.reader.Stepped.{Stepped}
-use Rattle.deserializer.specs.Answer.{message, refused}
+use Rattle.deserializer.specs.Answer.{refused}
 use Rattle.deserializer.specs.Call.{Outcome, after, end, run, stepOf, writes}
 use Rattle.deserializer.specs.Machine.{inPayload, landed, pays, refuse, stepped}
 use Rattle.deserializer.proofs.Closing.{refusal-only-closes}

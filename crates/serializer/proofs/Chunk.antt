@@ -10,6 +10,7 @@ use Rattle.chunk_header.specs.declared.ChunkHeader.{ChunkHeader}
 use Rattle.chunk_header.specs.declared.ChunkHeaderFormat.{ChunkHeaderFormat}
 use Rattle.chunk_header.specs.declared.ChunkHeaderFormat.the-variants.{Full, TimeDeltaWithoutMessageStreamId, TimeDeltaOnly, Empty}
 use Rattle.chunk_header.specs.Layout.{absent, present, format, chunkBytes, headerBytes, extendedBytes}
+use Rattle.chunk_header.proofs.Table.{header-most}
 use Rattle.chunk_header.specs.Table.{typeOf, fieldLength, headerLength}
 use Rattle.fields.specs.Endian.{bigEndian, littleEndian}
 use Rattle.serializer.specs.Packet.{chunk, messageHeader, extended, maxField}
@@ -46,13 +47,6 @@ pub length-head : (f : ChunkHeaderFormat) (h : ChunkHeader)
     → length (chunkBytes (chunk f h [])) ≡ 1 + headerLength (typeOf f) + length (extendedBytes (extended (h .«timestamp_field»)))
 unfolding chunkBytes
 length-head f h = simp (length-append, length-header f h) (omega arith)
-
-header-most : (f : ChunkHeaderFormat) → headerLength (typeOf f) ≤ 11
-unfolding fieldLength headerLength
-header-most Full = lit≤ tt
-header-most TimeDeltaWithoutMessageStreamId = lit≤ tt
-header-most TimeDeltaOnly = lit≤ tt
-header-most Empty = lit≤ tt
 
 pub extended-most : (time : ℕ) → length (extendedBytes (extended time)) ≤ 4
 unfolding bigEndian

@@ -1,6 +1,7 @@
 -- A header that is refused, or has an extended time, goes byte by byte.
 use Prim.Native.Nat.{ℕ, _+_}
-use Rattle.deserializer.proofs.Heading.{header-most, heads-known}
+use Rattle.chunk_header.proofs.Table.{header-most}
+use Rattle.deserializer.proofs.Heading.{heads-known}
 use native.Mathlib.Omega.{arith}
 use mathlib.Core.Path.{refl, sym, ap, _∙_}
 use borrow.Author.Needs.{needs}

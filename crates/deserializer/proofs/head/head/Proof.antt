@@ -1,7 +1,7 @@
 -- What a turn needs, test by test.
 use mathlib.Core.Path.{refl}
 use native.Mathlib.Omega.{arith}
-use Rattle.deserializer.proofs.Heading.{header-most}
+use Rattle.chunk_header.proofs.Table.{header-most}
 use borrow.Author.Needs.{needs}
 use Rattle.deserializer.proofs.head.head.Statement.{statement}
 use Rattle.deserializer.proofs.head.head.Tie as tie

@@ -1,5 +1,4 @@
 -- The test is the definition's: nothing, or all 32 bits of the time.
-use native.Mathlib.Omega.{arith}
 use borrow.Author.Tests.{lt-ltb, le-ltb}
 use Rattle.fields.specs.Endian.{bigEndian}
 use Rattle.fields.proofs.Lists.{adds-none}

@@ -1,11 +1,11 @@
 -- First byte, message header and extended time, one straight after the other.
-use Prim.Native.Nat.{ℕ, _+_, _*_, _≤_}
+use Prim.Native.Nat.{ℕ, _+_, _*_}
 use mathlib.Core.Path.{_≡_, ap, _∙_}
 use mathlib.Core.List.{List, [], _∷_, _++_}
 use native.Mathlib.Omega.{arith}
 use lib.ListN.{length, length-append}
 use Rattle.chunk_header.specs.Layout.{headerBytes, extendedBytes}
-use Rattle.chunk_header.specs.Table.{typeOf, headerLength}
+use Rattle.chunk_header.specs.Table.{typeOf}
 use Rattle.chunk_header.proofs.Table.{type-lt}
 use Rattle.fields.specs.Endian.{bigEndian}
 use Rattle.fields.specs.Output.{Adds}
