@@ -1,0 +1,36 @@
+// Lists of names.
+use crate::numbers::Number;
+use crate::text::put_words;
+use crate::words::count;
+use crate::words::word;
+use check::same;
+
+// The user control events that have one number.
+const EVENTS: [u8; 44] = *b"begin end dry recorded ping pong empty ready";
+
+// The place of the name in the list; how many there are where it is none of them.
+pub fn place_of(names: &[u8], name: &[u8]) -> usize {
+    let all = count(names, b' ');
+    let mut place = 0;
+    while place < all {
+        if same(word(names, place), name) {
+            return place;
+        }
+        place += 1;
+    }
+    all
+}
+
+// The place of the event's name as a number.
+pub fn read_event_name(name: &[u8]) -> Number {
+    let place = place_of(&EVENTS, name);
+    if place < 8 {
+        return Number::Value(place as u32);
+    }
+    Number::Bad
+}
+
+// Puts the name of the event at `place` behind the text.
+pub fn put_event_name(text: &mut [u8], filled: usize, place: usize) -> usize {
+    put_words(text, filled, word(&EVENTS, place))
+}

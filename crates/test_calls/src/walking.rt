@@ -1,0 +1,158 @@
+// A decoder's way through an input, piece by piece: what a call left unread is offered again.
+use crate::pieces::Cut;
+use crate::used::used_of;
+use deserializer::Answer;
+use deserializer::ChunkDeserializer;
+use deserializer::Telling;
+use test_parts::part;
+
+// How far it is.
+pub struct Walk {
+    decoder: ChunkDeserializer,
+    cut: Cut,
+    // how many bytes are used, and where the piece ends that they are in
+    pub used: usize,
+    end: usize,
+    // how many calls were made
+    pub calls: u64,
+    // whether nothing went wrong
+    pub is_good: bool,
+}
+
+// A walk up to an answer.
+pub struct Walked {
+    pub walk: Walk,
+    pub answer: Answer,
+}
+
+impl Walk {
+    // Before the first piece.
+    pub fn new(decoder: ChunkDeserializer, cut: Cut) -> Self {
+        Walk {
+            decoder,
+            cut,
+            used: 0,
+            end: 0,
+            calls: 0,
+            is_good: true,
+        }
+    }
+
+    // With something that went wrong.
+    pub fn bad(mut self) -> Self {
+        self.is_good = false;
+        self
+    }
+
+    // With the next piece, where all of this one is used.
+    fn reach(mut self, length: usize) -> Self {
+        if self.used != self.end {
+            return self;
+        }
+        if length <= self.end {
+            return self;
+        }
+        let cut = self.cut;
+        let piece = cut.length();
+        if length - self.end < piece {
+            self.end = length;
+        } else {
+            self.end += piece;
+        }
+        self.cut = cut.after();
+        self
+    }
+
+    // With one call more and so many bytes more used; it is wrong if the piece has not so many.
+    fn forward(mut self, used: usize) -> Self {
+        self.calls = std::num::wrapping_add_u64(self.calls, 1);
+        if self.end < self.used {
+            return self.bad();
+        }
+        if self.end - self.used < used {
+            return self.bad();
+        }
+        self.used += used;
+        self
+    }
+
+    // Whether nothing is left to offer, or something went wrong.
+    pub fn is_over(self, length: usize) -> bool {
+        if self.is_good {
+            return self.used == length;
+        }
+        true
+    }
+
+    // What the decoder would answer to a chunk size.
+    pub fn telling(self, size: u32) -> Telling {
+        let decoder = self.decoder;
+        let told = decoder.set_max_chunk_size(size);
+        told.telling
+    }
+
+    // Whether a size may be told: not inside a message.
+    pub fn may_tell(self) -> bool {
+        let decoder = self.decoder;
+        let telling = self.telling(decoder.get_max_chunk_size());
+        match telling {
+            Telling::Taken => true,
+            Telling::Refused(_) => false,
+        }
+    }
+
+    // With a chunk size told; it is wrong if that is refused.
+    pub fn tell(mut self, size: u32) -> Self {
+        let decoder = self.decoder;
+        let told = decoder.set_max_chunk_size(size);
+        let after = told.deserializer;
+        self.decoder = after;
+        let telling = told.telling;
+        match telling {
+            Telling::Taken => self,
+            Telling::Refused(_) => self.bad(),
+        }
+    }
+}
+
+impl Walked {
+    // Whether there is an answer, or no more to offer.
+    fn is_done(self, length: usize) -> bool {
+        let walk = self.walk;
+        let answer = self.answer;
+        match answer {
+            Answer::More { used: _ } => walk.is_over(length),
+            _ => true,
+        }
+    }
+}
+
+// Offers what is unread of the piece, or the next one.
+fn offer(so_far: Walk, input: &[u8], payload: &mut [u8]) -> Walked {
+    let mut next = so_far.reach(input.len());
+    let decoder = next.decoder;
+    let decoded = decoder.get_next_message(part(input, next.used, next.end), payload);
+    let answer = decoded.answer;
+    let after = decoded.deserializer;
+    next.decoder = after;
+    Walked {
+        walk: next.forward(used_of(answer)),
+        answer,
+    }
+}
+
+// Offers pieces up to the first message or refusal, or to the end of the input. The calls are counted down from a number that
+// no input uses up.
+pub fn next_answer(so_far: Walk, input: &[u8], payload: &mut [u8]) -> Walked {
+    let mut walked = offer(so_far, input, payload);
+    let mut turns = u64::MAX;
+    while 0 < turns {
+        if walked.is_done(input.len()) {
+            return walked;
+        }
+        let walk = walked.walk;
+        walked = offer(walk, input, payload);
+        turns -= 1;
+    }
+    walked
+}

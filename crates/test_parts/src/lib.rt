@@ -1,0 +1,8 @@
+// What test tools need that know no codec: parts of bytes, and lines on standard output.
+mod lines;
+mod parts;
+
+pub use crate::lines::print;
+pub use crate::lines::print_numbered;
+pub use crate::parts::least;
+pub use crate::parts::part;
