@@ -1,44 +1,83 @@
-// What a line answers.
-use crate::codec::Codec;
-use crate::hex::put_hex;
-use crate::text::put;
-use crate::text::put_numbered;
-use crate::text::put_words;
+// What lines answer, as text.
+use crate::decoded::put_decoded;
+use crate::events::put_event;
+use crate::outcome::Outcome;
+use crate::output::end_answer;
+use crate::state::State;
+use script_text::put;
+use script_text::put_hex;
+use script_text::put_number;
+use script_text::put_numbered;
+use script_text::put_words;
+use test_parts::part;
+use time::Order;
 
-// The answer of a line, put behind the text so far.
-pub enum Answer {
-    // how long the text is now
-    Text(usize),
-    BadLine,
+// Puts `ok` behind the text.
+fn put_ok(text: &mut [u8], filled: usize) -> usize {
+    put_words(text, filled, b"ok")
 }
 
-// An answer, and the codec handed back beside it.
-pub struct Reply {
-    pub answer: Answer,
-    pub codec: Codec,
+// Puts `refused K` behind the text.
+fn put_refused(text: &mut [u8], filled: usize, number: u8) -> usize {
+    put_numbered(text, filled, b"refused ", number as u64)
 }
 
-// A bad line, which leaves the codec as it was.
-pub fn bad(codec: Codec) -> Reply {
-    Reply {
-        answer: Answer::BadLine,
-        codec,
+// Puts `wrote N HEX` behind the text.
+fn put_wrote(text: &mut [u8], filled: usize, count: usize, output: &[u8]) -> usize {
+    let counted = put_numbered(text, filled, b"wrote ", count as u64);
+    let spaced = put(text, counted, b' ');
+    put_hex(text, spaced, part(output, 0, count))
+}
+
+// Puts how one timestamp stands to another behind the text.
+fn put_order(text: &mut [u8], filled: usize, order: Order) -> usize {
+    match order {
+        Order::Earlier => put_words(text, filled, b"earlier"),
+        Order::Same => put_words(text, filled, b"same"),
+        Order::Later => put_words(text, filled, b"later"),
     }
 }
 
-// Answers `ok`.
-pub fn ok(text: &mut [u8], filled: usize) -> Answer {
-    Answer::Text(put_words(text, filled, b"ok"))
+// Puts what a call answers behind the text.
+fn put_outcome(
+    text: &mut [u8],
+    filled: usize,
+    outcome: Outcome,
+    output: &[u8],
+    payload: &[u8],
+) -> usize {
+    match outcome {
+        Outcome::Ok => put_ok(text, filled),
+        Outcome::Wrote(count) => put_wrote(text, filled, count, output),
+        Outcome::Refused(number) => put_refused(text, filled, number),
+        Outcome::Timestamp(value) => put_number(text, filled, value as u64),
+        Outcome::Order(order) => put_order(text, filled, order),
+        Outcome::Event(event) => put_event(text, filled, event),
+        Outcome::Decoded(answer) => put_decoded(text, filled, answer, payload),
+        _ => filled,
+    }
 }
 
-// Answers `refused K`.
-pub fn refused(text: &mut [u8], filled: usize, number: u64) -> Answer {
-    Answer::Text(put_numbered(text, filled, b"refused ", number))
+// Answers `bad line N` for the line that was taken last, with which the run is over.
+fn bad_line(state: State, text: &mut [u8]) -> State {
+    let filled = put_numbered(text, state.waiting, b"bad line ", state.lines);
+    end_answer(state, text, filled).stop()
 }
 
-// Answers `wrote N HEX`.
-pub fn wrote(text: &mut [u8], filled: usize, bytes: &[u8]) -> Answer {
-    let counted = put_numbered(text, filled, b"wrote ", bytes.len() as u64);
-    let spaced = put(text, counted, b' ');
-    Answer::Text(put_hex(text, spaced, bytes))
+// Answers the line that was taken last.
+pub fn answer(
+    state: State,
+    text: &mut [u8],
+    outcome: Outcome,
+    output: &[u8],
+    payload: &[u8],
+) -> State {
+    match outcome {
+        Outcome::Skipped => state,
+        Outcome::BadLine => bad_line(state, text),
+        _ => {
+            let filled = put_outcome(text, state.waiting, outcome, output, payload);
+            end_answer(state, text, filled)
+        }
+    }
 }

@@ -1,4 +1,5 @@
 // The codec that the calls are made on.
+use crate::outcome::Outcome;
 use deserializer::ChunkDeserializer;
 use serializer::ChunkSerializer;
 
@@ -6,6 +7,12 @@ use serializer::ChunkSerializer;
 pub struct Codec {
     pub encoder: ChunkSerializer,
     pub decoder: ChunkDeserializer,
+}
+
+// What becomes of a line, and the codec after it.
+pub struct Made {
+    pub codec: Codec,
+    pub outcome: Outcome,
 }
 
 // The room of the decoder that is there at the start.
@@ -20,17 +27,5 @@ impl Codec {
             encoder: ChunkSerializer::new(),
             decoder,
         }
-    }
-
-    // With this encoder in place of the last.
-    pub fn with_encoder(mut self, encoder: ChunkSerializer) -> Self {
-        self.encoder = encoder;
-        self
-    }
-
-    // With this decoder in place of the last.
-    pub fn with_decoder(mut self, decoder: ChunkDeserializer) -> Self {
-        self.decoder = decoder;
-        self
     }
 }

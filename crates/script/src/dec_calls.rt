@@ -1,46 +1,78 @@
-// The calls of the decoder: `dec new`, `dec feed` and `dec size`.
-use crate::answers::Reply;
-use crate::answers::bad;
-use crate::codec::Codec;
-use crate::dec_feed;
-use crate::dec_size;
-use crate::dec_told::answer_told;
-use crate::numbers::Number;
-use crate::numbers::read_number;
-use crate::words::word;
-use crate::words::word_count;
-use check::same;
+// The calls of the decoder.
+use crate::outcome::Outcome;
 use deserializer::ChunkDeserializer;
+use deserializer::Decoded;
+use deserializer::Telling;
+use deserializer::Told;
+use script_text::read_call;
+use test_parts::part;
 
-// Answers `dec new ROOM`.
-fn answer_new(codec: Codec, line: &[u8], text: &mut [u8], filled: usize) -> Reply {
-    if word_count(line) != 3 {
-        return bad(codec);
-    }
-    let Number::Value(room) = read_number(word(line, 2)) else {
-        return bad(codec);
-    };
-    answer_told(codec, text, filled, ChunkDeserializer::new(room))
+// What becomes of a call, and the decoder after it.
+pub struct Fed {
+    pub decoder: ChunkDeserializer,
+    pub outcome: Outcome,
 }
 
-// Answers a line whose first word is `dec`.
-pub fn answer(
-    codec: Codec,
-    line: &[u8],
-    text: &mut [u8],
-    filled: usize,
-    bytes: &mut [u8],
-    payload: &mut [u8],
-) -> Reply {
-    let name = word(line, 1);
-    if same(name, b"new") {
-        return answer_new(codec, line, text, filled);
+// A bad line, which leaves the decoder as it was.
+fn bad(decoder: ChunkDeserializer) -> Fed {
+    Fed {
+        decoder,
+        outcome: Outcome::BadLine,
     }
-    if same(name, b"feed") {
-        return dec_feed::answer(codec, line, text, filled, bytes, payload);
+}
+
+// Whether a room or a size was taken.
+fn said(telling: Telling) -> Outcome {
+    match telling {
+        Telling::Taken => Outcome::Ok,
+        Telling::Refused(number) => Outcome::Refused(number),
     }
-    if same(name, b"size") {
-        return dec_size::answer(codec, line, text, filled);
+}
+
+// After `dec new` or `dec size`. The decoder that it handed back is in place of the last, after a
+// refusal too.
+fn after_telling(told: Told) -> Fed {
+    let decoder = told.deserializer;
+    let telling = told.telling;
+    Fed {
+        decoder,
+        outcome: said(telling),
     }
-    bad(codec)
+}
+
+// After `dec feed`.
+fn after_feeding(decoded: Decoded) -> Fed {
+    let decoder = decoded.deserializer;
+    let answer = decoded.answer;
+    Fed {
+        decoder,
+        outcome: Outcome::Decoded(answer),
+    }
+}
+
+// Makes the call `dec feed` with the first `buffer` bytes of the payload buffer. More than there are
+// cannot be lent.
+fn feed(decoder: ChunkDeserializer, piece: &[u8], buffer: u32, payload: &mut [u8]) -> Fed {
+    let lent = buffer as usize;
+    if payload.len() < lent {
+        return bad(decoder);
+    }
+    after_feeding(decoder.get_next_message(piece, &mut payload[0..lent]))
+}
+
+// Makes the call that the line is.
+pub fn make(decoder: ChunkDeserializer, line: &[u8], bytes: &mut [u8], payload: &mut [u8]) -> Fed {
+    let call = read_call(
+        b"dec new ROOM,dec feed BUFFER HEX,dec size SIZE",
+        line,
+        bytes,
+    );
+    let number = call.numbers[0];
+    let form = call.form;
+    match form {
+        0 => after_telling(ChunkDeserializer::new(number)),
+        1 => feed(decoder, part(bytes, 0, call.length), number, payload),
+        2 => after_telling(decoder.set_max_chunk_size(number)),
+        _ => bad(decoder),
+    }
 }

@@ -1,44 +1,112 @@
-// The calls of the encoder: `enc new`, `enc msg` and `enc size`.
-use crate::answers::Reply;
-use crate::answers::bad;
-use crate::answers::ok;
-use crate::codec::Codec;
-use crate::enc_msg;
-use crate::enc_size;
-use crate::words::word;
-use crate::words::word_count;
-use check::same;
+// The calls of the encoder.
+use crate::outcome::Outcome;
+use script_text::Call;
+use script_text::read_call;
 use serializer::ChunkSerializer;
+use serializer::Packet;
+use serializer::Serialized;
+use test_calls::refusal_of;
+use test_parts::part;
+use time::RtmpTimestamp;
 
-// Answers `enc new`.
-fn answer_new(codec: Codec, line: &[u8], text: &mut [u8], filled: usize) -> Reply {
-    if word_count(line) != 2 {
-        return bad(codec);
-    }
-    Reply {
-        answer: ok(text, filled),
-        codec: codec.with_encoder(ChunkSerializer::new()),
+// What becomes of a call, and the encoder after it.
+pub struct Encoded {
+    pub encoder: ChunkSerializer,
+    pub outcome: Outcome,
+}
+
+// A bad line, which leaves the encoder as it was.
+fn bad(encoder: ChunkSerializer) -> Encoded {
+    Encoded {
+        encoder,
+        outcome: Outcome::BadLine,
     }
 }
 
-// Answers a line whose first word is `enc`.
-pub fn answer(
-    codec: Codec,
-    line: &[u8],
-    text: &mut [u8],
-    filled: usize,
-    bytes: &mut [u8],
-    output: &mut [u8],
-) -> Reply {
-    let name = word(line, 1);
-    if same(name, b"new") {
-        return answer_new(codec, line, text, filled);
+// What a packet says.
+fn said(packet: Packet) -> Outcome {
+    match packet {
+        Packet::Written(count) => Outcome::Wrote(count),
+        _ => Outcome::Refused(refusal_of(packet)),
     }
-    if same(name, b"msg") {
-        return enc_msg::answer(codec, line, text, filled, bytes, output);
+}
+
+// After a call. The encoder that it handed back is in place of the last, after a refusal too.
+fn after(serialized: Serialized) -> Encoded {
+    let encoder = serialized.serializer;
+    let packet = serialized.packet;
+    Encoded {
+        encoder,
+        outcome: said(packet),
     }
-    if same(name, b"size") {
-        return enc_size::answer(codec, line, text, filled, output);
+}
+
+// Whether a call can be made of `enc msg`: the type is a byte, and the flags are 0 or 1.
+fn is_message(call: Call) -> bool {
+    call.numbers[0] < 256 && call.numbers[3] < 2 && call.numbers[4] < 2
+}
+
+// Makes the call `enc msg`.
+fn send(encoder: ChunkSerializer, call: Call, payload: &[u8], output: &mut [u8]) -> Encoded {
+    if !is_message(call) {
+        return bad(encoder);
     }
-    bad(codec)
+    let type_id = (call.numbers[0] % 256) as u8;
+    let time = RtmpTimestamp::new(call.numbers[2]);
+    let is_forced = call.numbers[3] == 1;
+    let is_droppable = call.numbers[4] == 1;
+    after(encoder.serialize(
+        type_id,
+        call.numbers[1],
+        time,
+        payload,
+        is_forced,
+        is_droppable,
+        output,
+    ))
+}
+
+// Makes the call `enc size`.
+fn change_size(encoder: ChunkSerializer, call: Call, output: &mut [u8]) -> Encoded {
+    let time = RtmpTimestamp::new(call.numbers[1]);
+    after(encoder.set_max_chunk_size(call.numbers[0], time, output))
+}
+
+// The bytes of output that the call lends.
+fn lent_by(call: Call) -> usize {
+    let form = call.form;
+    match form {
+        0 => 0,
+        1 => call.numbers[5] as usize,
+        _ => call.numbers[2] as usize,
+    }
+}
+
+// Makes the call with this output.
+fn make_lent(encoder: ChunkSerializer, call: Call, bytes: &[u8], output: &mut [u8]) -> Encoded {
+    let form = call.form;
+    match form {
+        0 => Encoded {
+            encoder: ChunkSerializer::new(),
+            outcome: Outcome::Ok,
+        },
+        1 => send(encoder, call, part(bytes, 0, call.length), output),
+        2 => change_size(encoder, call, output),
+        _ => bad(encoder),
+    }
+}
+
+// Makes the call that the line is with the first OUT bytes of the output. More than there are cannot
+// be lent.
+pub fn make(encoder: ChunkSerializer, line: &[u8], bytes: &mut [u8], output: &mut [u8]) -> Encoded {
+    let call = read_call(
+        b"enc new,enc msg TYPE STREAM TIME FORCED DROPPABLE OUT HEX,enc size SIZE TIME OUT",
+        line,
+        bytes,
+    );
+    let lent = lent_by(call);
+    if output.len() < lent {
+        return bad(encoder);
+    }
+    make_lent(encoder, call, bytes, &mut output[0..lent])
 }

@@ -1,7 +1,7 @@
 // Standard input, read piece by piece into a buffer.
-use crate::parts::part;
 use crate::state::State;
 use libc::STDIN_FILENO;
+use test_parts::part;
 
 // Moves `count` bytes from `from` on to the start of the input.
 fn move_to_start(input: &mut [u8], from: usize, count: usize) {
@@ -35,5 +35,5 @@ pub fn read_more(state: State, input: &mut [u8]) -> State {
     let count = part(input, start, state.end).len();
     move_to_start(input, start, count);
     let end = read_to(input, count);
-    state.hold(0, end)
+    state.hold(end)
 }

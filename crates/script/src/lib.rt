@@ -1,31 +1,20 @@
 // Runs a script of the codec's calls: one call a line on standard input, one answer a line on
 // standard output.
 mod answers;
+mod calls;
 mod codec;
 mod control_calls;
-mod control_read;
-mod control_write;
 mod dec_calls;
-mod dec_feed;
-mod dec_found;
-mod dec_size;
-mod dec_told;
-mod enc_answers;
+mod decoded;
 mod enc_calls;
-mod enc_msg;
-mod enc_size;
-mod hex;
+mod events;
 mod input;
-mod kept;
 mod lines;
-mod numbers;
+mod outcome;
 mod output;
-mod parts;
 mod state;
-mod text;
 mod time_calls;
 mod turns;
-mod words;
 
 // What is read: the unfinished line that is kept, of up to 262144 bytes, and at least as many more.
 const INPUT_LENGTH: usize = 524288;

@@ -1,8 +1,8 @@
 // Standard output, to which answers are written many at a time.
-use crate::parts::part;
 use crate::state::State;
-use crate::text::put;
 use libc::STDOUT_FILENO;
+use script_text::put;
+use test_parts::part;
 
 // So many bytes of answers do not wait any longer.
 const LONGEST_WAIT: usize = 65536;
