@@ -1,10 +1,10 @@
 // What the decoder's calls answer.
-use crate::parts::part;
 use crate::tally::Tally;
 use crate::tally::mix;
 use crate::tally::probe;
 use deserializer::Answer;
-use time::RtmpTimestamp;
+use test_calls::used_of;
+use test_parts::part;
 
 // Counts what a call answered.
 pub fn counted(tally: Tally, answer: Answer, payload: &[u8], every: usize) -> Tally {
@@ -24,19 +24,5 @@ pub fn counted(tally: Tally, answer: Answer, payload: &[u8], every: usize) -> Ta
         }
         Answer::More { used: _ } => called,
         Answer::Refused { number, used: _ } => called.message(mix(called.sum, number as u32)),
-    }
-}
-
-pub fn used_of(answer: Answer) -> usize {
-    match answer {
-        Answer::Message {
-            type_id: _,
-            stream_id: _,
-            timestamp: _,
-            length: _,
-            used,
-        } => used,
-        Answer::More { used } => used,
-        Answer::Refused { number: _, used } => used,
     }
 }

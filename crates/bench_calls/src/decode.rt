@@ -1,20 +1,12 @@
 // A run of a decoder over a whole input, piece by piece; what a call left unread is offered again.
 use crate::answers::counted;
-use crate::answers::used_of;
 use crate::parts::after;
-use crate::parts::part;
 use crate::parts::piece_end;
 use crate::tally::Tally;
 use crate::tally::tell;
-use deserializer::ChunkDeserializer;
-
-// A decoder for messages of at most `room` bytes in chunks of `size`.
-fn decoder(room: u32, size: u32) -> ChunkDeserializer {
-    let made = ChunkDeserializer::new(room);
-    let fresh = made.deserializer;
-    let told = fresh.set_max_chunk_size(size);
-    told.deserializer
-}
+use test_calls::decoder;
+use test_calls::used_of;
+use test_parts::part;
 
 // Decodes all of `input`, and tells messages, calls, bytes taken and the checksum.
 #[no_mangle]

@@ -1,11 +1,12 @@
 // A run of an encoder over a list of messages, each written at the start of the same output.
 use crate::parts::after;
-use crate::parts::part;
 use crate::tally::Tally;
 use crate::tally::probe;
 use crate::tally::tell;
 use serializer::ChunkSerializer;
-use serializer::Packet;
+use test_calls::count_of;
+use test_calls::encoder;
+use test_parts::part;
 use time::RtmpTimestamp;
 
 // An encoder, and how many messages it has sent.
@@ -15,30 +16,11 @@ struct Run {
     count: usize,
 }
 
-fn written(packet: Packet) -> usize {
-    match packet {
-        Packet::Written(n) => n,
-        Packet::NoPayload => 0,
-        Packet::MessageTooLong => 0,
-        Packet::ChunkSizeZero => 0,
-        Packet::InvalidMaxChunkSize => 0,
-        Packet::OutputTooShort => 0,
-    }
-}
-
 // Counts a packet, the first `n` bytes of the output.
 fn counted(tally: Tally, n: usize, output: &[u8], every: usize) -> Tally {
     let called = tally.called(n);
     let packet = part(output, 0, n);
     called.message(probe(called.sum, packet, every))
-}
-
-// An encoder that has told its peer a chunk size.
-fn encoder(size: u32) -> ChunkSerializer {
-    let mut output = [0u8; 16];
-    let fresh = ChunkSerializer::new();
-    let told = fresh.set_max_chunk_size(size, RtmpTimestamp::new(0), &mut output);
-    told.serializer
 }
 
 fn kind_at(kinds: &[u8], i: usize) -> u8 {
@@ -80,7 +62,7 @@ fn turn(
     let packet = sent.packet;
     Run {
         encoder: next,
-        tally: counted(tally, written(packet), output, every),
+        tally: counted(tally, count_of(packet), output, every),
         count: std::num::wrapping_add_usize(i, 1),
     }
 }

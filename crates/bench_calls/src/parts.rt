@@ -1,16 +1,6 @@
 // Parts of an input.
 ghost use Prim.Native.Nat.{_≤_, _<_};
 
-// The bytes from `from` up to `to`; none where they are not all there.
-pub fn part<'a>(bytes: &'a [u8], from: usize, to: usize) -> &'a [u8] {
-    if from <= to {
-        if to <= bytes.len() {
-            return &bytes[from..to];
-        }
-    }
-    &bytes[..0]
-}
-
 // The place so many bytes after `at`; the end of all where there are less, or where it is none.
 pub fn after(at: usize, by: usize, all: usize) -> usize
     requires { ⌜ at < all ⌝ }

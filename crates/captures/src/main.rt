@@ -1,21 +1,19 @@
 // Four real chunk streams (data/), byte by byte and cut at random: every message that the decoder hands out, in the form of
 // the listings beside them. What it must write, the file `stdout`, is made from these listings alone (compare/stored).
-mod cut;
-mod parts;
-mod print;
+mod hash;
 mod sha256;
 mod walk;
 
-use crate::cut::Cut;
-use crate::parts::part;
-use crate::print::print;
 use crate::walk::walk_through;
+use test_calls::Cut;
+use test_parts::part;
+use test_parts::print;
 
 // Walks through the capture in both cuts.
 fn both(name: &[u8], capture: &[u8], payload: &mut [u8]) {
     print(name);
     print(b", byte by byte\n");
-    walk_through(capture, Cut::bytes(), payload);
+    walk_through(capture, Cut::even(1), payload);
     print(name);
     print(b", cut at random\n");
     walk_through(capture, Cut::random(), payload);

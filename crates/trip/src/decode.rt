@@ -1,30 +1,27 @@
 // The way in: the bytes on the wire in pieces, and each message beside the one that was kept.
 ghost use mathlib.Core.Path.{_≡_};
-use crate::parts::least;
-use crate::parts::part;
+use crate::first_bytes::print_first_bytes;
 use crate::plan::Call;
 use crate::plan::call_at;
 use crate::plan::fill;
-use crate::print::print;
-use crate::print::print_first_bytes;
-use crate::print::print_numbered;
 use check::same;
 use deserializer::Answer;
 use deserializer::ChunkDeserializer;
 use deserializer::Telling;
 use fields::number_at;
 use fields::put_number;
+use test_calls::Cut;
+use test_calls::Walk;
+use test_calls::next_answer;
+use test_parts::part;
+use test_parts::print;
+use test_parts::print_numbered;
 
 // How far the pieces are.
 pub struct Decoding {
-    pub decoder: ChunkDeserializer,
-    // how many bytes are used, and where the piece ends that they are in
-    pub used: usize,
-    pub end: usize,
+    pub walk: Walk,
     // how many messages were handed out
     pub count: usize,
-    // whether each was the one that was kept, nothing was refused, and each size was taken
-    pub is_good: bool,
 }
 
 // What came of a way in.
@@ -38,48 +35,24 @@ pub struct Arrived {
 // The room of the decoder: the longest payload of the plan.
 const ROOM: u32 = 200;
 
-// No trip takes more calls of the decoder.
+// No trip has more answers.
 const TURNS: usize = 10000;
 
 impl Decoding {
-    // Before the first piece.
-    fn new() -> Self {
+    // Before the first piece, of pieces of at most `piece` bytes.
+    fn new(piece: usize) -> Self {
         let made = ChunkDeserializer::new(ROOM);
         let decoder = made.deserializer;
         Decoding {
-            decoder,
-            used: 0,
-            end: 0,
+            walk: Walk::new(decoder, Cut::even(piece)),
             count: 0,
-            is_good: true,
         }
     }
 
     // With something that went wrong.
     fn bad(mut self) -> Self {
-        self.is_good = false;
-        self
-    }
-
-    // With the next piece, of at most `piece` bytes, where all of this one is used.
-    fn reach(mut self, piece: usize, length: usize) -> Self {
-        if self.used == self.end {
-            if self.end < length {
-                self.end += least(piece, length - self.end);
-            }
-        }
-        self
-    }
-
-    // With so many bytes more used; it is wrong if the piece has not so many.
-    fn forward(mut self, used: usize) -> Self {
-        if self.end < self.used {
-            return self.bad();
-        }
-        if self.end - self.used < used {
-            return self.bad();
-        }
-        self.used += used;
+        let walk = self.walk;
+        self.walk = walk.bad();
         self
     }
 
@@ -89,45 +62,23 @@ impl Decoding {
         self
     }
 
-    // Whether nothing is left to offer, or something went wrong.
-    fn is_over(self, length: usize) -> bool {
-        if self.is_good {
-            return self.used == length;
-        }
-        true
-    }
-
-    // Whether a size may be told: not inside a message.
-    fn may_tell(self) -> bool {
-        let decoder = self.decoder;
-        let told = decoder.set_max_chunk_size(decoder.get_max_chunk_size());
-        let telling = told.telling;
-        match telling {
-            Telling::Taken => true,
-            Telling::Refused(_) => false,
-        }
-    }
-
     // With a new chunk size told.
     fn tell(mut self, size: u32) -> Self {
-        let decoder = self.decoder;
-        let told = decoder.set_max_chunk_size(size);
-        let after = told.deserializer;
-        self.decoder = after;
-        let telling = told.telling;
-        print_numbered(b"told ", size as u64);
-        match telling {
-            Telling::Taken => {
-                print(b": taken\n");
-                self
-            }
-            Telling::Refused(number) => {
-                print_numbered(b": refused ", number as u64);
-                print(b"\n");
-                self.bad()
-            }
-        }
+        let walk = self.walk;
+        print_telling(size, walk.telling(size));
+        self.walk = walk.tell(size);
+        self
     }
+}
+
+// Writes what became of a new chunk size.
+fn print_telling(size: u32, telling: Telling) {
+    print_numbered(b"told ", size as u64);
+    match telling {
+        Telling::Taken => print(b": taken"),
+        Telling::Refused(number) => print_numbered(b": refused ", number as u64),
+    }
+    print(b"\n");
 }
 
 // The payload that the message of the call at `place` was sent with.
@@ -225,12 +176,11 @@ fn take_answer(
             stream_id,
             timestamp,
             length,
-            used,
+            used: _,
         } => {
             let message = part(payload, 0, length as usize);
-            let next = so_far.forward(used);
             take_message(
-                next,
+                so_far,
                 type_id,
                 stream_id,
                 timestamp.value,
@@ -239,29 +189,29 @@ fn take_answer(
                 sent,
             )
         }
-        Answer::More { used } => so_far.forward(used),
-        Answer::Refused { number, used } => {
+        Answer::More { used: _ } => so_far,
+        Answer::Refused { number, used: _ } => {
             print_numbered(b"refused ", number as u64);
             print(b"\n");
-            so_far.forward(used).bad()
+            so_far.bad()
         }
     }
 }
 
-// Offers what is unread of the piece.
-fn offer(
+// Goes on to the next answer, and takes it.
+fn turn(
     so_far: Decoding,
     wire: &[u8],
     places: &[u8],
     payload: &mut [u8],
     sent: &mut [u8],
 ) -> Decoding {
-    let decoder = so_far.decoder;
-    let decoded = decoder.get_next_message(part(wire, so_far.used, so_far.end), payload);
-    let answer = decoded.answer;
-    let after = decoded.deserializer;
+    let walk = so_far.walk;
+    let walked = next_answer(walk, wire, payload);
+    let after = walked.walk;
+    let answer = walked.answer;
     let mut next = so_far;
-    next.decoder = after;
+    next.walk = after;
     take_answer(next, answer, payload, places, sent)
 }
 
@@ -273,11 +223,12 @@ fn decode_all(
     payload: &mut [u8],
     sent: &mut [u8],
 ) -> Decoding {
-    let mut so_far = Decoding::new();
+    let mut so_far = Decoding::new(piece);
     let mut turns = TURNS;
     while 0 < turns {
-        so_far = offer(so_far.reach(piece, wire.len()), wire, places, payload, sent);
-        if so_far.is_over(wire.len()) {
+        so_far = turn(so_far, wire, places, payload, sent);
+        let walk = so_far.walk;
+        if walk.is_over(wire.len()) {
             return so_far;
         }
         turns -= 1;
@@ -296,8 +247,9 @@ pub fn decode(
     print_numbered(b"pieces of ", piece as u64);
     print(b"\n");
     let end = decode_all(wire, places, piece, payload, sent);
-    let may_tell = end.may_tell();
-    print_numbered(b"used ", end.used as u64);
+    let walk = end.walk;
+    let may_tell = walk.may_tell();
+    print_numbered(b"used ", walk.used as u64);
     print_numbered(b" of ", wire.len() as u64);
     if may_tell {
         print(b", a size may be told\n");
@@ -306,7 +258,7 @@ pub fn decode(
     }
     Arrived {
         count: end.count,
-        used: end.used,
-        is_good: end.is_good && may_tell && end.used == wire.len() && end.count == places.len(),
+        used: walk.used,
+        is_good: walk.is_good && may_tell && walk.used == wire.len() && end.count == places.len(),
     }
 }

@@ -1,15 +1,16 @@
 // The way out: each call on the encoder, and the kept packets one after the other.
-use crate::parts::part;
 use crate::plan::CALLS;
 use crate::plan::Call;
 use crate::plan::call_at;
 use crate::plan::fill;
-use crate::print::print;
-use crate::print::print_numbered;
 use fields::put_bytes;
 use serializer::ChunkSerializer;
-use serializer::Packet;
 use serializer::Serialized;
+use test_calls::count_of;
+use test_calls::refusal_of;
+use test_parts::part;
+use test_parts::print;
+use test_parts::print_numbered;
 use time::RtmpTimestamp;
 
 // How far the calls are.
@@ -63,30 +64,6 @@ fn send_lent(
         return send(encoder, call, payload, output);
     }
     send(encoder, call, payload, &mut output[0..lent])
-}
-
-// How many bytes were written.
-fn count_of(packet: Packet) -> usize {
-    match packet {
-        Packet::Written(count) => count,
-        Packet::NoPayload => 0,
-        Packet::MessageTooLong => 0,
-        Packet::ChunkSizeZero => 0,
-        Packet::InvalidMaxChunkSize => 0,
-        Packet::OutputTooShort => 0,
-    }
-}
-
-// The number of the refusal; 0 for none.
-fn refusal_of(packet: Packet) -> u8 {
-    match packet {
-        Packet::Written(_) => 0,
-        Packet::NoPayload => 1,
-        Packet::MessageTooLong => 2,
-        Packet::ChunkSizeZero => 3,
-        Packet::InvalidMaxChunkSize => 4,
-        Packet::OutputTooShort => 5,
-    }
 }
 
 // Writes what became of the call.

@@ -2,16 +2,15 @@
 // offered to a decoder; and what comes out beside what was kept.
 mod decode;
 mod encode;
-mod parts;
+mod first_bytes;
 mod plan;
-mod print;
 
 use crate::decode::Arrived;
 use crate::decode::decode;
 use crate::encode::encode_all;
-use crate::parts::part;
-use crate::print::print;
-use crate::print::print_numbered;
+use test_parts::part;
+use test_parts::print;
+use test_parts::print_numbered;
 
 // The first of two that went wrong, or else the second.
 fn worse(a: Arrived, b: Arrived) -> Arrived {

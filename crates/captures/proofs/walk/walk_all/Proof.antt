@@ -11,17 +11,14 @@ Inv-loop capture payload₀ so-far₀ turns₀ payload so-far turns = length pay
 abbrev μ-loop : tie.MeasureT-loop
 μ-loop capture payload₀ so-far₀ turns₀ payload so-far turns = turns
 
-new-requires : tie.Need-new-requires Inv-loop μ-loop
-new-requires c κs = search needs
+start-requires : tie.Need-start-requires Inv-loop μ-loop
+start-requires c κs = search needs
 
 loop-holds : tie.Need-loop-holds Inv-loop μ-loop
 loop-holds c = search needs
 
-reach-requires : tie.Need-reach-requires Inv-loop μ-loop
-reach-requires c κs = search needs
-
-offer-requires : tie.Need-offer-requires Inv-loop μ-loop
-offer-requires c κs = search needs
+turn-requires : tie.Need-turn-requires Inv-loop μ-loop
+turn-requires c κs = search needs
 
 is-over-requires : tie.Need-is-over-requires Inv-loop μ-loop
 is-over-requires c κs = search needs
@@ -53,10 +50,9 @@ walk-all-spec =
     (tie.spec
     Inv-loop
     μ-loop
-    new-requires
+    start-requires
     loop-holds
-    reach-requires
-    offer-requires
+    turn-requires
     is-over-requires
     same-length
     returns

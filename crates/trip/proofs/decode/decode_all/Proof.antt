@@ -17,11 +17,8 @@ new-requires c κs = search needs
 loop-holds : tie.Need-loop-holds Inv-loop μ-loop
 loop-holds c = search needs
 
-reach-requires : tie.Need-reach-requires Inv-loop μ-loop
-reach-requires c κs = search needs
-
-offer-requires : tie.Need-offer-requires Inv-loop μ-loop
-offer-requires c κs = search needs
+turn-requires : tie.Need-turn-requires Inv-loop μ-loop
+turn-requires c κs = search needs
 
 is-over-requires : tie.Need-is-over-requires Inv-loop μ-loop
 is-over-requires c κs = search needs
@@ -61,8 +58,7 @@ decode-all-spec =
     μ-loop
     new-requires
     loop-holds
-    reach-requires
-    offer-requires
+    turn-requires
     is-over-requires
     same-length
     same-length-2
