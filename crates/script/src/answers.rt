@@ -1,14 +1,15 @@
 // What lines answer, as text.
 use crate::decoded::put_decoded;
 use crate::events::put_event;
-use crate::outcome::Outcome;
 use crate::output::end_answer;
 use crate::state::State;
+use script_calls::Outcome;
 use script_text::put;
 use script_text::put_hex;
 use script_text::put_number;
 use script_text::put_numbered;
 use script_text::put_words;
+use script_text::word;
 use test_parts::part;
 use time::Order;
 
@@ -29,13 +30,22 @@ fn put_wrote(text: &mut [u8], filled: usize, count: usize, output: &[u8]) -> usi
     put_hex(text, spaced, part(output, 0, count))
 }
 
+// The place of the word that says how one timestamp stands to another.
+fn order_place(order: Order) -> usize {
+    match order {
+        Order::Earlier => 0,
+        Order::Same => 1,
+        Order::Later => 2,
+    }
+}
+
 // Puts how one timestamp stands to another behind the text.
 fn put_order(text: &mut [u8], filled: usize, order: Order) -> usize {
-    match order {
-        Order::Earlier => put_words(text, filled, b"earlier"),
-        Order::Same => put_words(text, filled, b"same"),
-        Order::Later => put_words(text, filled, b"later"),
-    }
+    put_words(
+        text,
+        filled,
+        word(b"earlier same later", order_place(order)),
+    )
 }
 
 // Puts what a call answers behind the text.

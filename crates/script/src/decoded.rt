@@ -3,6 +3,7 @@ use deserializer::Answer;
 use script_text::put;
 use script_text::put_hex;
 use script_text::put_numbered;
+use script_text::put_spaced;
 use test_parts::part;
 
 // Puts ` used U` behind the text.
@@ -20,9 +21,9 @@ fn put_header(
     length: u32,
 ) -> usize {
     let typed = put_numbered(text, filled, b"message ", type_id as u64);
-    let streamed = put_numbered(text, typed, b" ", stream_id as u64);
-    let timed = put_numbered(text, streamed, b" ", time as u64);
-    put_numbered(text, timed, b" ", length as u64)
+    let streamed = put_spaced(text, typed, stream_id as u64);
+    let timed = put_spaced(text, streamed, time as u64);
+    put_spaced(text, timed, length as u64)
 }
 
 // Puts ` used U HEX` behind the text: the payload is the first `length` bytes of the buffer.

@@ -1,19 +1,12 @@
 // Runs a script of the codec's calls: one call a line on standard input, one answer a line on
 // standard output.
 mod answers;
-mod calls;
-mod codec;
-mod control_calls;
-mod dec_calls;
 mod decoded;
-mod enc_calls;
 mod events;
 mod input;
 mod lines;
-mod outcome;
 mod output;
 mod state;
-mod time_calls;
 mod turns;
 
 // What is read: the unfinished line that is kept, of up to 262144 bytes, and at least as many more.

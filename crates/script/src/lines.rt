@@ -1,8 +1,8 @@
 // Lines of standard input.
-use crate::calls::LONGEST_LINE;
 use crate::input::read_more;
 use crate::output::write_answers;
 use crate::state::State;
+use script_calls::LONGEST_LINE;
 use script_text::find;
 use test_parts::part;
 

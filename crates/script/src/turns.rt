@@ -1,10 +1,10 @@
 // A run, turn by turn.
 use crate::answers::answer;
-use crate::calls::make;
-use crate::codec::Codec;
 use crate::lines::next_line;
 use crate::output::write_answers;
 use crate::state::State;
+use script_calls::Codec;
+use script_calls::make;
 use test_parts::part;
 
 // What is kept from turn to turn: how far the run is, and the codec beside it.

@@ -15,6 +15,7 @@ pub use crate::names::put_event_name;
 pub use crate::text::put;
 pub use crate::text::put_number;
 pub use crate::text::put_numbered;
+pub use crate::text::put_spaced;
 pub use crate::text::put_words;
 pub use crate::words::find;
 pub use crate::words::word;

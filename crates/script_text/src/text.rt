@@ -33,3 +33,9 @@ pub fn put_numbered(text: &mut [u8], filled: usize, words: &[u8], number: u64) -
     let end = put_words(text, filled, words);
     put_number(text, end, number)
 }
+
+// Puts a space and a number after it behind the text.
+pub fn put_spaced(text: &mut [u8], filled: usize, number: u64) -> usize {
+    let end = put(text, filled, b' ');
+    put_number(text, end, number)
+}

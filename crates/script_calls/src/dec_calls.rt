@@ -1,5 +1,5 @@
 // The calls of the decoder.
-use crate::outcome::Outcome;
+use crate::outcomes::Outcome;
 use deserializer::ChunkDeserializer;
 use deserializer::Decoded;
 use deserializer::Telling;

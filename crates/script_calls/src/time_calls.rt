@@ -1,5 +1,5 @@
 // The calls of the clock.
-use crate::outcome::Outcome;
+use crate::outcomes::Outcome;
 use script_text::read_call;
 use time::RtmpTimestamp;
 

@@ -1,5 +1,5 @@
 // The codec that the calls are made on.
-use crate::outcome::Outcome;
+use crate::outcomes::Outcome;
 use deserializer::ChunkDeserializer;
 use serializer::ChunkSerializer;
 

@@ -1,5 +1,5 @@
 // The calls of user control bodies.
-use crate::outcome::Outcome;
+use crate::outcomes::Outcome;
 use script_text::Call;
 use script_text::read_call;
 use test_parts::part;

@@ -1,10 +1,10 @@
 // The calls that lines are.
-use crate::codec::Codec;
-use crate::codec::Made;
 use crate::control_calls;
 use crate::dec_calls;
 use crate::enc_calls;
-use crate::outcome::Outcome;
+use crate::kept::Codec;
+use crate::kept::Made;
+use crate::outcomes::Outcome;
 use crate::time_calls;
 use script_text::place_of;
 use script_text::word;
@@ -51,6 +51,23 @@ fn is_skipped(line: &[u8]) -> bool {
     line[0] == b'#'
 }
 
+// Makes the call of a line that has one.
+fn make_named(
+    codec: Codec,
+    line: &[u8],
+    bytes: &mut [u8],
+    output: &mut [u8],
+    payload: &mut [u8],
+) -> Made {
+    match place_of(b"time control enc dec", word(line, 0)) {
+        0 => beside(codec, time_calls::make(line, bytes)),
+        1 => beside(codec, control_calls::make(line, bytes, output)),
+        2 => encode(codec, line, bytes, output),
+        3 => decode(codec, line, bytes, payload),
+        _ => beside(codec, Outcome::BadLine),
+    }
+}
+
 // Makes the call that the line is.
 pub fn make(
     codec: Codec,
@@ -65,11 +82,5 @@ pub fn make(
     if is_skipped(line) {
         return beside(codec, Outcome::Skipped);
     }
-    match place_of(b"time control enc dec", word(line, 0)) {
-        0 => beside(codec, time_calls::make(line, bytes)),
-        1 => beside(codec, control_calls::make(line, bytes, output)),
-        2 => encode(codec, line, bytes, output),
-        3 => decode(codec, line, bytes, payload),
-        _ => beside(codec, Outcome::BadLine),
-    }
+    make_named(codec, line, bytes, output, payload)
 }

@@ -1,0 +1,15 @@
+// The calls of a script's lines, made on a codec that is kept from line to line. A test tool: it is proved safe and ending, and
+// promises nothing further.
+mod calls;
+mod control_calls;
+mod dec_calls;
+mod enc_calls;
+mod kept;
+mod outcomes;
+mod time_calls;
+
+pub use crate::calls::LONGEST_LINE;
+pub use crate::calls::make;
+pub use crate::kept::Codec;
+pub use crate::kept::Made;
+pub use crate::outcomes::Outcome;
