@@ -9,6 +9,7 @@ use test_calls::Walk;
 use test_calls::next_answer;
 use test_parts::part;
 use test_parts::print;
+use test_parts::print_line;
 use test_parts::print_numbered;
 
 const ROOM: u32 = 65536;
@@ -62,8 +63,7 @@ fn take_answer(so_far: Walk, answer: Answer, payload: &[u8]) -> Walk {
         }
         Answer::More { used: _ } => so_far,
         Answer::Refused { number, used: _ } => {
-            print_numbered(b"refused ", number as u64);
-            print(b"\n");
+            print_line(b"refused ", number as u64);
             so_far.bad()
         }
     }
@@ -91,14 +91,19 @@ fn walk_all(capture: &[u8], cut: Cut, payload: &mut [u8]) -> Walk {
     so_far
 }
 
-// Offers all of the capture, and writes each message and where it ended.
-pub fn walk_through(capture: &[u8], cut: Cut, payload: &mut [u8]) {
-    let end = walk_all(capture, cut, payload);
-    print_numbered(b"used ", end.used as u64);
-    print_numbered(b" of ", capture.len() as u64);
-    if end.may_tell() {
+// Writes how far it came, and whether that is the end of a message.
+fn print_end(used: usize, length: usize, may_tell: bool) {
+    print_numbered(b"used ", used as u64);
+    print_numbered(b" of ", length as u64);
+    if may_tell {
         print(b", between messages\n");
     } else {
         print(b", inside a message\n");
     }
+}
+
+// Offers all of the capture, and writes each message and where it ended.
+pub fn walk_through(capture: &[u8], cut: Cut, payload: &mut [u8]) {
+    let end = walk_all(capture, cut, payload);
+    print_end(end.used, capture.len(), end.may_tell());
 }

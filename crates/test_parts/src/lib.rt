@@ -3,6 +3,6 @@ mod lines;
 mod parts;
 
 pub use crate::lines::print;
+pub use crate::lines::print_line;
 pub use crate::lines::print_numbered;
-pub use crate::parts::least;
 pub use crate::parts::part;

@@ -15,6 +15,7 @@ use test_calls::Walk;
 use test_calls::next_answer;
 use test_parts::part;
 use test_parts::print;
+use test_parts::print_line;
 use test_parts::print_numbered;
 
 // How far the pieces are.
@@ -120,11 +121,16 @@ fn is_kept_one(
     is_header_of(call, type_id, stream_id, time) && same(payload, part(sent, 0, call.length))
 }
 
-// Writes a message.
-fn print_message(type_id: u8, stream_id: u32, time: u32, payload: &[u8]) {
+// Writes a message's header.
+fn print_header(type_id: u8, stream_id: u32, time: u32) {
     print_numbered(b"message ", type_id as u64);
     print_numbered(b" on stream ", stream_id as u64);
     print_numbered(b" at ", time as u64);
+}
+
+// Writes a message.
+fn print_message(type_id: u8, stream_id: u32, time: u32, payload: &[u8]) {
+    print_header(type_id, stream_id, time);
     print_numbered(b", ", payload.len() as u64);
     print(b" bytes: ");
     print_first_bytes(payload);
@@ -191,8 +197,7 @@ fn take_answer(
         }
         Answer::More { used: _ } => so_far,
         Answer::Refused { number, used: _ } => {
-            print_numbered(b"refused ", number as u64);
-            print(b"\n");
+            print_line(b"refused ", number as u64);
             so_far.bad()
         }
     }
@@ -236,6 +241,17 @@ fn decode_all(
     so_far
 }
 
+// Writes how far it came, and whether that is the end of a message.
+fn print_used(used: usize, length: usize, may_tell: bool) {
+    print_numbered(b"used ", used as u64);
+    print_numbered(b" of ", length as u64);
+    if may_tell {
+        print(b", a size may be told\n");
+    } else {
+        print(b", no size may be told\n");
+    }
+}
+
 // Makes the way in with pieces of at most `piece` bytes.
 pub fn decode(
     wire: &[u8],
@@ -244,18 +260,11 @@ pub fn decode(
     payload: &mut [u8],
     sent: &mut [u8],
 ) -> Arrived {
-    print_numbered(b"pieces of ", piece as u64);
-    print(b"\n");
+    print_line(b"pieces of ", piece as u64);
     let end = decode_all(wire, places, piece, payload, sent);
     let walk = end.walk;
     let may_tell = walk.may_tell();
-    print_numbered(b"used ", walk.used as u64);
-    print_numbered(b" of ", wire.len() as u64);
-    if may_tell {
-        print(b", a size may be told\n");
-    } else {
-        print(b", no size may be told\n");
-    }
+    print_used(walk.used, wire.len(), may_tell);
     Arrived {
         count: end.count,
         used: walk.used,

@@ -66,23 +66,33 @@ fn send_lent(
     send(encoder, call, payload, &mut output[0..lent])
 }
 
-// Writes what became of the call.
-fn print_call(call: Call, count: usize, refusal: u8) {
+// Writes which call it is.
+fn print_name(call: Call) {
     if call.is_size {
         print_numbered(b"size ", call.size as u64);
     } else {
         print_numbered(b"type ", call.type_id as u64);
     }
     print_numbered(b" at ", call.time as u64);
-    if refusal != 0 {
-        print_numbered(b": refused ", refusal as u64);
+}
+
+// Writes a packet, and what becomes of it.
+fn print_packet(call: Call, count: usize) {
+    print_numbered(b": wrote ", count as u64);
+    if call.is_kept {
+        print(b", kept");
     } else {
-        print_numbered(b": wrote ", count as u64);
-        if call.is_kept {
-            print(b", kept");
-        } else {
-            print(b", left out");
-        }
+        print(b", left out");
+    }
+}
+
+// Writes what became of the call.
+fn print_call(call: Call, count: usize, refusal: u8) {
+    print_name(call);
+    if refusal == 0 {
+        print_packet(call, count);
+    } else {
+        print_numbered(b": refused ", refusal as u64);
     }
     if refusal == call.refusal {
         print(b"\n");

@@ -20,14 +20,19 @@ fn worse(a: Arrived, b: Arrived) -> Arrived {
     a
 }
 
-// Writes how the trip ended: `count` packets of `length` bytes were kept.
-fn print_end(is_good: bool, arrived: Arrived, count: usize, length: usize) {
-    if is_good && arrived.is_good {
-        print_numbered(b"trip ok: ", arrived.count as u64);
+// Writes whether it was a good one, with `arrived` messages of the `count` that were kept.
+fn print_verdict(is_good: bool, arrived: usize, count: usize) {
+    if is_good {
+        print_numbered(b"trip ok: ", arrived as u64);
     } else {
-        print_numbered(b"trip failed: ", arrived.count as u64);
+        print_numbered(b"trip failed: ", arrived as u64);
         print_numbered(b" of ", count as u64);
     }
+}
+
+// Writes how the trip ended: `count` packets of `length` bytes were kept.
+fn print_end(is_good: bool, arrived: Arrived, count: usize, length: usize) {
+    print_verdict(is_good && arrived.is_good, arrived.count, count);
     print_numbered(b" messages, ", arrived.used as u64);
     print_numbered(b" of ", length as u64);
     print(b" bytes\n");
