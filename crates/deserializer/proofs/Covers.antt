@@ -12,9 +12,9 @@ use Rattle.fields.proofs.Endian.{number-lt}
 use Rattle.fields.proofs.Lists.{bytes-drop, bytes-take, big-take}
 use Rattle.chunk_header.specs.Layout.{Chunk, Form, one, two, three, Header, type0, type1, type2, type3, Extended, absent, present, basicBytes, headerBytes, extendedBytes, chunkBytes, format}
 use Rattle.deserializer.specs.declared.ChunkDeserializer.{ChunkDeserializer}
-use Rattle.deserializer.specs.declared.rows.Row.{Row}
+use Rattle.chunk_meaning.specs.declared.Row.{Row}
 use Rattle.deserializer.specs.Chunk.{ChunkFits, ExtendedFits, FormFits, HeaderFits, carried, header, left, row, rowOf}
-use Rattle.deserializer.specs.Meaning.{maxField}
+use Rattle.chunk_meaning.specs.Meaning.{maxField}
 use Rattle.deserializer.proofs.Reading.{last-digit, other-digits}
 
 -- the first n bytes say a number below 256 ^ n, and the others follow

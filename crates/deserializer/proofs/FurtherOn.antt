@@ -19,14 +19,14 @@ use Rattle.deserializer.specs.declared.call.Core.{Core}
 use Rattle.deserializer.specs.declared.call.Moved.{Moved}
 use Rattle.deserializer.specs.declared.reader.Event.{Event}
 use Rattle.deserializer.specs.declared.reader.Event.the-variants.{Chunk as ChunkEnds}
-use Rattle.deserializer.specs.declared.rows.Row.{Row}
+use Rattle.chunk_meaning.specs.declared.Row.{Row}
 use Rattle.deserializer.specs.declared.reader.Stage.the-variants.{Csid}
 use Rattle.chunk_header.specs.declared.ChunkHeaderFormat.the-variants.{Empty}
 use Rattle.deserializer.specs.Call.{after, end, run}
 use Rattle.deserializer.specs.Chunk.{ChunkFits, basicRefused, got, header, headerRefused, row, stored}
 use Rattle.deserializer.specs.Further.{Amid, Begins, Chunks, Further, Furthers, Next, gone, staying}
 use Rattle.deserializer.specs.Machine.{current, reader, unfinished}
-use Rattle.deserializer.specs.Meaning.{basicRefusal, laterRefusal, maxField}
+use Rattle.chunk_meaning.specs.Meaning.{basicRefusal, laterRefusal, maxField}
 use Rattle.deserializer.specs.Rows.{find, numbers, putRow, rowAt}
 use Rattle.deserializer.specs.Turn.{whole}
 use Rattle.deserializer.proofs.ReadsBack.{Within, claiming, finished, reads-back}

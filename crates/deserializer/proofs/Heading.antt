@@ -22,12 +22,12 @@ use Rattle.deserializer.specs.declared.call.Core.{Core}
 use Rattle.deserializer.specs.declared.head.Taken.{Taken}
 use Rattle.deserializer.specs.declared.reader.Stage.{Stage}
 use Rattle.deserializer.specs.declared.reader.Stage.the-variants.{Csid, CsidSecond, CsidThird, InitialTimestamp, MessageLength, MessageTypeId, MessageStreamId, ExtendedTimestamp, MessagePayload}
-use Rattle.deserializer.specs.declared.rows.Row.{Row}
+use Rattle.chunk_meaning.specs.declared.Row.{Row}
 use Rattle.deserializer.specs.Call.{run}
 use Rattle.deserializer.specs.Chunk.{HeadFits, HeaderFits, basicRefused, carried, formatFor, got, header, headerRefused, row}
 use Rattle.deserializer.specs.Head.{Heads, Known, headerIn, refusalOf, settledBy}
 use Rattle.deserializer.specs.Machine.{inPayload, opens, stepped, swapped}
-use Rattle.deserializer.specs.Meaning.{basicRefusal, firstRefusal, laterRefusal, maxField}
+use Rattle.chunk_meaning.specs.Meaning.{basicRefusal, firstRefusal, laterRefusal, maxField}
 use Rattle.deserializer.specs.Rows.{find, free, rowAt}
 use Rattle.deserializer.specs.Told.{atStart}
 use Rattle.deserializer.specs.Turn.{whole}

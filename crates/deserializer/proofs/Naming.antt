@@ -9,7 +9,7 @@ use borrow.Author.Tests.{lt-ltb, le-ltb, eq-eqb, ne-eqb}
 use Rattle.chunk_header.specs.declared.ChunkHeaderFormat.{ChunkHeaderFormat}
 use Rattle.deserializer.specs.declared.reader.Reader.{Reader}
 use Rattle.deserializer.specs.Machine.{claims, known, named, refuse}
-use Rattle.deserializer.specs.Meaning.{basicRefusal}
+use Rattle.chunk_meaning.specs.Meaning.{basicRefusal}
 use Rattle.deserializer.specs.Rows.{find, free, rowAt}
 
 module _ (room size : ℕ) (rows : List ℕ) (r : Reader) (format : ChunkHeaderFormat) (id place unused k : ℕ)

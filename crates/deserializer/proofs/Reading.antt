@@ -17,12 +17,12 @@ use Rattle.deserializer.specs.declared.reader.Stage.{Stage}
 use Rattle.deserializer.specs.declared.reader.Stage.the-variants.{InitialTimestamp, MessageLength, MessageTypeId, MessageStreamId, ExtendedTimestamp}
 use Rattle.deserializer.specs.declared.reader.Stepped.{Stepped}
 use Rattle.deserializer.specs.declared.reader.Unfinished.{Unfinished}
-use Rattle.deserializer.specs.declared.rows.Row.{Row}
+use Rattle.chunk_meaning.specs.declared.Row.{Row}
 use Rattle.deserializer.specs.Call.{Outcome, after, run}
 use Rattle.deserializer.specs.Chunk.{ExtendedFits, HeaderFits, carried, formatFor, says}
 use Rattle.deserializer.specs.Machine.{at, current, extendedField, extendedNext, headed, lengthField, lengthNext, reader, streamField, streamNext, swapped, timestampField, timestampNext, typeField, typeNext, whole}
-use Rattle.deserializer.specs.Rows.{fielded, lengthed, streamed, typed}
-use Rattle.deserializer.specs.Meaning.{maxField}
+use Rattle.chunk_meaning.specs.Stored.{fielded, lengthed, streamed, typed}
+use Rattle.chunk_meaning.specs.Meaning.{maxField}
 use Rattle.deserializer.proofs.Fields.{Reaches, field}
 use Rattle.deserializer.proofs.Runs.{holding, run-header, then}
 

@@ -22,8 +22,9 @@ use Rattle.deserializer.specs.declared.reader.Stepped.{Stepped}
 use Rattle.deserializer.specs.Call.{after, isRefusal, run}
 use Rattle.deserializer.specs.Chunk.{ChunkFits, FormFits, HeadFits, basicRefused, formatFor, got, header, headerRefused, inside, left, placeOf, row, says, stored}
 use Rattle.deserializer.specs.Machine.{at, current, ended, go, landed, named, opens, reader, refuse, timestampNext, unfinished, whole}
-use Rattle.deserializer.specs.Meaning.{basicRefusal, firstRefusal, laterRefusal}
-use Rattle.deserializer.specs.Rows.{claimed, find, free, putRow}
+use Rattle.chunk_meaning.specs.Meaning.{basicRefusal, firstRefusal, laterRefusal}
+use Rattle.chunk_meaning.specs.Stored.{claimed}
+use Rattle.deserializer.specs.Rows.{find, free, putRow}
 use Rattle.deserializer.proofs.Fields.{Reaches}
 use Rattle.deserializer.proofs.Identifying.{basic-read}
 use Rattle.deserializer.proofs.Naming.{named-refused}

@@ -10,7 +10,7 @@ use Rattle.deserializer.specs.declared.reader.Event.{Event}
 use Rattle.deserializer.specs.declared.reader.Event.the-variants.{Go, Chunk, Message, Refuse}
 use Rattle.deserializer.specs.declared.reader.Reader.{Reader}
 use Rattle.deserializer.specs.declared.reader.Stepped.{Stepped}
-use Rattle.deserializer.specs.declared.rows.Row.{Row}
+use Rattle.chunk_meaning.specs.declared.Row.{Row}
 use Rattle.deserializer.specs.Answer.{Listed, message, more, refused}
 use Rattle.deserializer.specs.Machine.{inPayload, landed, pays, refuse, stepped}
 use Rattle.deserializer.specs.Rows.{putRow}

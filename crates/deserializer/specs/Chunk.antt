@@ -10,9 +10,10 @@ use Rattle.chunk_header.specs.declared.ChunkHeaderFormat.{ChunkHeaderFormat}
 use Rattle.chunk_header.specs.declared.ChunkHeaderFormat.the-variants.{Full, TimeDeltaWithoutMessageStreamId, TimeDeltaOnly, Empty}
 use Rattle.chunk_header.specs.Layout.{Chunk, Form, one, two, three, Header, type0, type1, type2, type3, Extended, absent, present}
 use Rattle.deserializer.specs.declared.ChunkDeserializer.{ChunkDeserializer}
-use Rattle.deserializer.specs.declared.rows.Row.{Row}
-use Rattle.deserializer.specs.Meaning.{basicRefusal, firstRefusal, firstTime, laterRefusal, maxField}
-use Rattle.deserializer.specs.Rows.{claimed, fielded, find, free, lengthed, rowAt, streamed, timed, typed}
+use Rattle.chunk_meaning.specs.declared.Row.{Row}
+use Rattle.chunk_meaning.specs.Meaning.{basicRefusal, firstRefusal, firstTime, laterRefusal, maxField}
+use Rattle.chunk_meaning.specs.Stored.{claimed, fielded, lengthed, streamed, timed, typed}
+use Rattle.deserializer.specs.Rows.{find, free, rowAt}
 
 abbrev pub formatFor : Header → ChunkHeaderFormat
 formatFor (type0 time length type stream) = Full

@@ -12,10 +12,10 @@ use Rattle.deserializer.specs.declared.call.Core.{Core}
 use Rattle.deserializer.specs.declared.call.Moved.{Moved}
 use Rattle.deserializer.specs.declared.reader.Event.the-variants.{Chunk}
 use Rattle.deserializer.specs.declared.reader.Stage.the-variants.{Csid}
-use Rattle.deserializer.specs.declared.rows.Row.{Row}
+use Rattle.chunk_meaning.specs.declared.Row.{Row}
 use Rattle.deserializer.specs.Call.{run}
 use Rattle.deserializer.specs.Machine.{current, reader, unfinished}
-use Rattle.deserializer.specs.Meaning.{maxField}
+use Rattle.chunk_meaning.specs.Meaning.{maxField}
 use Rattle.deserializer.specs.Rows.{find, putRow, rowAt}
 use Rattle.deserializer.specs.Turn.{follows, whole}
 

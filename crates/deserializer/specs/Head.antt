@@ -17,11 +17,12 @@ use Rattle.deserializer.specs.declared.reader.Reader.{Reader}
 use Rattle.deserializer.specs.declared.reader.Stage.the-variants.{Csid}
 use Rattle.deserializer.specs.declared.reader.Stepped.{Stepped}
 use Rattle.deserializer.specs.declared.reader.Unfinished.{Unfinished}
-use Rattle.deserializer.specs.declared.rows.Row.{Row}
+use Rattle.chunk_meaning.specs.declared.Row.{Row}
 use Rattle.deserializer.specs.Call.{after, run}
 use Rattle.deserializer.specs.Machine.{current, opens, reader, swapped}
-use Rattle.deserializer.specs.Meaning.{firstRefusal, firstTime, laterRefusal}
-use Rattle.deserializer.specs.Rows.{find, timed}
+use Rattle.chunk_meaning.specs.Meaning.{firstRefusal, firstTime, laterRefusal}
+use Rattle.chunk_meaning.specs.Stored.{timed}
+use Rattle.deserializer.specs.Rows.{find}
 use Rattle.deserializer.specs.Turn.{follows}
 
 -- the header after a basic header of one byte

@@ -4,7 +4,6 @@ pub mod Chunk
 pub mod Further
 pub mod Head
 pub mod Machine
-pub mod Meaning
 pub mod Rows
 pub mod Told
 pub mod Turn

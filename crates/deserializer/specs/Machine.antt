@@ -17,9 +17,10 @@ use Rattle.deserializer.specs.declared.reader.Stage.{Stage}
 use Rattle.deserializer.specs.declared.reader.Stage.the-variants.{Csid as AtCsid, CsidSecond, CsidThird, InitialTimestamp, MessageLength, MessageTypeId, MessageStreamId, ExtendedTimestamp, MessagePayload}
 use Rattle.deserializer.specs.declared.reader.Stepped.{Stepped}
 use Rattle.deserializer.specs.declared.reader.Unfinished.{Unfinished}
-use Rattle.deserializer.specs.declared.rows.Row.{Row}
-use Rattle.deserializer.specs.Meaning.{maxField, firstTime, basicRefusal, laterRefusal, firstRefusal}
-use Rattle.deserializer.specs.Rows.{claimed, fielded, find, free, lengthed, rowAt, streamed, timed, typed}
+use Rattle.chunk_meaning.specs.declared.Row.{Row}
+use Rattle.chunk_meaning.specs.Meaning.{maxField, firstTime, basicRefusal, laterRefusal, firstRefusal}
+use Rattle.chunk_meaning.specs.Stored.{claimed, fielded, lengthed, streamed, timed, typed}
+use Rattle.deserializer.specs.Rows.{find, free, rowAt}
 
 -- the parts of a reader put together
 abbrev pub reader : Stage → Current → Unfinished → Reader

@@ -5,7 +5,7 @@ use mathlib.Core.List.{List, [], _∷_}
 use lib.Dec.{eqb}
 use lib.ListN.{getD}
 use lib.Seq.{sets}
-use Rattle.deserializer.specs.declared.rows.Row.{Row}
+use Rattle.chunk_meaning.specs.declared.Row.{Row}
 
 abbrev pub rowAt : List ℕ → ℕ → Row
 rowAt rows i = record {
@@ -22,26 +22,6 @@ numbers r = r .id ∷ r .timestamp .value ∷ r .«timestamp_field» ∷ r .«me
 
 unfoldable pub putRow : List ℕ → ℕ → Row → List ℕ
 putRow rows i r = sets rows (6 * i) (numbers r)
-
--- a row that has just been claimed
-abbrev pub claimed : ℕ → Row
-claimed id = record { id = id; timestamp = record { value = 0 }; «timestamp_field» = 0; «message_length» = 0; «message_type_id» = 0; «message_stream_id» = 0 }
-
--- a row with one of its numbers replaced
-abbrev pub timed : Row → ℕ → Row
-timed h x = record { id = h .id; timestamp = record { value = x }; «timestamp_field» = h .«timestamp_field»; «message_length» = h .«message_length»; «message_type_id» = h .«message_type_id»; «message_stream_id» = h .«message_stream_id» }
-
-abbrev pub fielded : Row → ℕ → Row
-fielded h x = record { id = h .id; timestamp = h .timestamp; «timestamp_field» = x; «message_length» = h .«message_length»; «message_type_id» = h .«message_type_id»; «message_stream_id» = h .«message_stream_id» }
-
-abbrev pub lengthed : Row → ℕ → Row
-lengthed h x = record { id = h .id; timestamp = h .timestamp; «timestamp_field» = h .«timestamp_field»; «message_length» = x; «message_type_id» = h .«message_type_id»; «message_stream_id» = h .«message_stream_id» }
-
-abbrev pub typed : Row → ℕ → Row
-typed h x = record { id = h .id; timestamp = h .timestamp; «timestamp_field» = h .«timestamp_field»; «message_length» = h .«message_length»; «message_type_id» = x; «message_stream_id» = h .«message_stream_id» }
-
-abbrev pub streamed : Row → ℕ → Row
-streamed h x = record { id = h .id; timestamp = h .timestamp; «timestamp_field» = h .«timestamp_field»; «message_length» = h .«message_length»; «message_type_id» = h .«message_type_id»; «message_stream_id» = x }
 
 -- of n rows from i on, the first of that id; 64 where there is none
 unfoldable pub seek : ℕ → ℕ → List ℕ → ℕ → ℕ

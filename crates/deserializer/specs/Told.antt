@@ -14,7 +14,7 @@ use Rattle.deserializer.specs.declared.reader.Reader.{Reader}
 use Rattle.deserializer.specs.declared.reader.Stage.{Stage}
 use Rattle.deserializer.specs.declared.reader.Stage.the-variants.{Csid, CsidSecond, CsidThird, InitialTimestamp, MessageLength, MessageTypeId, MessageStreamId, ExtendedTimestamp, MessagePayload}
 use Rattle.deserializer.specs.Machine.{current, reader, unfinished}
-use Rattle.deserializer.specs.Rows.{claimed}
+use Rattle.chunk_meaning.specs.Stored.{claimed}
 
 -- each answer's number, as document 01 lists it
 pub data Size : Type 0 where

@@ -3,7 +3,7 @@ ghost use mathlib.Core.Path.{_≡_};
 ghost use Prim.Native.Nat.{_<_};
 ghost use lib.ListN.{length};
 ghost use Rattle.deserializer.specs.Machine.{basic as Machine·basic, claims as Machine·claims, known as Machine·known, named as Machine·named};
-ghost use Rattle.deserializer.specs.Rows.{claimed as Rows·claimed};
+ghost use Rattle.chunk_meaning.specs.Stored.{claimed as Rows·claimed};
 use crate::header::timestamp_next;
 use crate::parts::at;
 use crate::parts::go;
@@ -13,15 +13,15 @@ use crate::reader::Event;
 use crate::reader::Reader;
 use crate::reader::Stage;
 use crate::reader::Stepped;
-use crate::refusals::basic_refusal;
 use crate::rows::ROWS;
-use crate::rows::Row;
 use crate::rows::find;
 use crate::rows::row_at;
 use chunk_header::ChunkHeaderFormat;
 use chunk_header::Csid;
 use chunk_header::get_csid;
 use chunk_header::get_format;
+use chunk_meaning::Row;
+use chunk_meaning::basic_refusal;
 use time::RtmpTimestamp;
 
 // A row that has just been claimed.

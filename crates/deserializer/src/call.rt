@@ -16,9 +16,9 @@ use crate::reader::Event;
 use crate::reader::Reader;
 use crate::reader::Stepped;
 use crate::rows::ROWS;
-use crate::rows::Row;
 use crate::rows::put_row;
 use crate::step::step;
+use chunk_meaning::Row;
 use fields::put_bytes;
 use time::RtmpTimestamp;
 

@@ -16,12 +16,12 @@ use crate::reader::Event;
 use crate::reader::Reader;
 use crate::reader::Stage;
 use crate::reader::Unfinished;
-use crate::refusals::MAX_INITIAL_TIMESTAMP;
 use crate::rows::ROWS;
-use crate::rows::Row;
 use crate::rows::find;
 use crate::rows::row_at;
 use chunk_header::ChunkHeaderFormat;
+use chunk_meaning::MAX_INITIAL_TIMESTAMP;
+use chunk_meaning::Row;
 use fields::put_bytes;
 
 // The decoder after such a chunk: so many bytes of the message have come.

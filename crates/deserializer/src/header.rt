@@ -9,16 +9,16 @@ use crate::parts::ended;
 use crate::parts::go;
 use crate::parts::headed;
 use crate::parts::refuse;
-use crate::parts::timed;
 use crate::reader::Reader;
 use crate::reader::Stage;
 use crate::reader::Stepped;
-use crate::refusals::MAX_INITIAL_TIMESTAMP;
-use crate::refusals::first_refusal;
-use crate::refusals::first_time;
-use crate::refusals::later_refusal;
 use chunk_header::HeaderField;
 use chunk_header::field_length;
+use chunk_meaning::MAX_INITIAL_TIMESTAMP;
+use chunk_meaning::first_refusal;
+use chunk_meaning::first_time;
+use chunk_meaning::later_refusal;
+use chunk_meaning::timed;
 
 // The payload of a chunk. A message of no bytes ends here.
 pub fn opens(size: u32, reader: Reader, got: u32) -> Stepped

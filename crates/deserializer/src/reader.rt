@@ -1,6 +1,6 @@
 // The small machine that takes one byte after the other: what it holds, and what a byte does.
-use crate::rows::Row;
 use chunk_header::ChunkHeaderFormat;
+use chunk_meaning::Row;
 
 // The field that the next byte belongs to. One of several bytes has what was gathered of it, and how many bytes it lacks.
 pub enum Stage {

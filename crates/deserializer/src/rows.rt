@@ -1,22 +1,12 @@
 // The table of 64 header rows, lent as numbers: six a row, and a row of id 0 is free.
 ghost use mathlib.Core.Path.{_≡_};
 ghost use Prim.Native.Nat.{_<_};
-ghost use lib.ListN.{length};
 ghost use Rattle.deserializer.specs.Rows.{putRow, rowAt};
 ghost use Rattle.deserializer.specs.Rows.{find as Rows·find};
+use chunk_meaning::Row;
 use time::RtmpTimestamp;
 
 pub const ROWS: usize = 64;
-
-// What is stored of a chunk stream.
-pub struct Row {
-    pub id: u32,
-    pub timestamp: RtmpTimestamp,
-    pub timestamp_field: u32,
-    pub message_length: u32,
-    pub message_type_id: u8,
-    pub message_stream_id: u32,
-}
 
 // The first row of this id, or 64.
 pub fn find(rows: &[u32; 384], id: u32) -> usize

@@ -9,9 +9,9 @@ use lib.Dec.{eqb, ltb}
 use borrow.Author.Tests.{eq-eqb, eqb-false, lt-ltb, ltb-false, ltb-true, ne-eqb}
 use Rattle.chunk_header.specs.Layout.{Chunk, Form, one, two, three, Header, type0, type1, type2, type3, Extended, absent, present, format}
 use Rattle.deserializer.specs.declared.ChunkDeserializer.{ChunkDeserializer}
-use Rattle.deserializer.specs.declared.rows.Row.{Row}
+use Rattle.chunk_meaning.specs.declared.Row.{Row}
 use Rattle.deserializer.specs.Chunk.{ExtendedFits, FormFits, HeadFits, basicRefused, carried, formatFor, header, headerRefused, inside, row, rowOf, says}
-use Rattle.deserializer.specs.Meaning.{basicRefusal, firstRefusal, isEmpty, isFull, laterRefusal, maxField, repeats}
+use Rattle.chunk_meaning.specs.Meaning.{basicRefusal, firstRefusal, isEmpty, isFull, laterRefusal, maxField, repeats}
 use Rattle.deserializer.specs.Rows.{find, free, rowAt}
 use Rattle.deserializer.proofs.Reached.{Reached}
 use Rattle.deserializer.proofs.RowLaws.{Distinct, find-none, find-tells}

@@ -22,8 +22,9 @@ use Rattle.deserializer.specs.declared.reader.Stepped.{Stepped}
 use Rattle.deserializer.specs.Answer.{message, more, refused}
 use Rattle.deserializer.specs.Call.{Outcome, after, closes, end, isRefusal, outcome, run, stepOf, writes}
 use Rattle.deserializer.specs.Machine.{at, basicBy, claims, current, ended, extendedField, extendedNext, gathered, go, headed, inPayload, lacks, landed, lengthField, lengthNext, named, opens, paid, paused, pays, reader, refuse, stepped, streamField, streamNext, swapped, timestampField, timestampNext, typeField, typeNext, unfinished, whole}
-use Rattle.deserializer.specs.Meaning.{basicRefusal, firstRefusal, firstTime, laterRefusal, maxField}
-use Rattle.deserializer.specs.Rows.{fielded, find, free, lengthed, rowAt, streamed, timed, typed}
+use Rattle.chunk_meaning.specs.Meaning.{basicRefusal, firstRefusal, firstTime, laterRefusal, maxField}
+use Rattle.chunk_meaning.specs.Stored.{fielded, lengthed, streamed, timed, typed}
+use Rattle.deserializer.specs.Rows.{find, free, rowAt}
 use Rattle.deserializer.specs.Told.{atStart, between}
 use Rattle.deserializer.proofs.Cut.{message-not-more, refused-not-more}
 use Rattle.deserializer.proofs.Reached.{Reached, step-reached}

@@ -7,7 +7,7 @@ use lib.ListN.{length}
 use Rattle.user_control.specs.Reading.{codeIn}
 use Rattle.chunk_header.specs.Layout.{Chunk, Header, type0, type1, type2, type3, Extended, absent, present, basicBytes, headerBytes, extendedBytes, format}
 use Rattle.deserializer.specs.declared.ChunkDeserializer.{ChunkDeserializer}
-use Rattle.deserializer.specs.declared.rows.Row.{Row}
+use Rattle.chunk_meaning.specs.declared.Row.{Row}
 use Rattle.deserializer.specs.Rows.{rowAt}
 use Rattle.refusal_table.specs.Terms.{OneOf}
 

@@ -8,10 +8,11 @@ use native.Mathlib.Omega.{arith}
 use lib.Dec.{ltb, eqb}
 use lib.ListN.{length, getD}
 use borrow.Author.Tests.{eqb-true, eqb-false, le-ltb, lt-ltb, ltb-true, ltb-false}
-use Rattle.deserializer.specs.declared.rows.Row.{Row}
+use Rattle.chunk_meaning.specs.declared.Row.{Row}
 use Rattle.deserializer.specs.Call.{putAt}
 use Rattle.deserializer.specs.Chunk.{placeOf}
-use Rattle.deserializer.specs.Rows.{claimed, find, free, putRow, rowAt}
+use Rattle.chunk_meaning.specs.Stored.{claimed}
+use Rattle.deserializer.specs.Rows.{find, free, putRow, rowAt}
 use Rattle.deserializer.proofs.RowLaws.{Distinct, alone-none, alone-there, distinct-put, find-first, find-other, find-put, find-tells, id-other, length-putRow, row-other, row-put}
 
 -- a stream's row is in the table

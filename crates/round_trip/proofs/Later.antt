@@ -13,7 +13,7 @@ use Rattle.serializer.specs.Packet.{chunk, extended}
 use Rattle.deserializer.specs.declared.ChunkDeserializer.{ChunkDeserializer}
 use Rattle.deserializer.specs.Chunk.{ChunkFits, basicRefused, headerRefused, row, stored}
 use Rattle.deserializer.specs.Chunk.{header as headed}
-use Rattle.deserializer.specs.Meaning.{basicRefusal, laterRefusal}
+use Rattle.chunk_meaning.specs.Meaning.{basicRefusal, laterRefusal}
 use Rattle.deserializer.specs.Rows.{find}
 use Rattle.round_trip.proofs.Held.{Held}
 use Rattle.serializer.specs.Packet.{laterFormat}

@@ -32,7 +32,7 @@ use Rattle.deserializer.specs.Machine.{
   pays,
   landed,
 }
-use Rattle.deserializer.specs.Meaning.{basicRefusal, laterRefusal, firstRefusal}
+use Rattle.chunk_meaning.specs.Meaning.{basicRefusal, laterRefusal, firstRefusal}
 use Rattle.deserializer.specs.Rows.{putRow, seek}
 use Rattle.deserializer.specs.Told.{made, told, between}
 use Rattle.round_trip.specs.Demand3.{

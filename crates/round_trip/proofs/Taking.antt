@@ -14,7 +14,7 @@ use Rattle.deserializer.specs.declared.ChunkDeserializer.{ChunkDeserializer}
 use Rattle.deserializer.specs.declared.reader.Event.{Event}
 use Rattle.deserializer.specs.declared.reader.Event.the-variants.{Message}
 use Rattle.deserializer.specs.declared.reader.Stage.the-variants.{Csid}
-use Rattle.deserializer.specs.declared.rows.Row.{Row}
+use Rattle.chunk_meaning.specs.declared.Row.{Row}
 use Rattle.deserializer.specs.Answer.{message as found}
 use Rattle.deserializer.specs.Call.{after, end, outcome, putAt, run}
 use Rattle.deserializer.specs.Chunk.{got, header, placeOf, stored}

@@ -12,7 +12,7 @@ use Rattle.chunk_header.specs.declared.ChunkHeaderFormat.the-variants.{Full, Ti
 use Rattle.chunk_header.specs.Layout.{Chunk, absent, present}
 use Rattle.serializer.specs.Packet.{extended, maxField, messageHeader}
 use Rattle.deserializer.specs.declared.ChunkDeserializer.{ChunkDeserializer}
-use Rattle.deserializer.specs.declared.rows.Row.{Row}
+use Rattle.chunk_meaning.specs.declared.Row.{Row}
 use Rattle.deserializer.specs.Chunk.{ChunkFits, ExtendedFits, HeaderFits, basicRefused, headerRefused, row, stored, says}
 use Rattle.deserializer.specs.Rows.{find}
 use Rattle.deserializer.proofs.RowLaws.{find-tells}

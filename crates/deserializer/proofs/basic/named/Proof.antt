@@ -1,6 +1,6 @@
 -- Each way out is one of the three ways of the definition.
 use mathlib.Core.Path.{ap, _∙_}
-use Rattle.deserializer.specs.declared.rows.Row.{Row}
+use Rattle.chunk_meaning.specs.declared.Row.{Row}
 use Rattle.deserializer.specs.Machine.{known}
 use Rattle.deserializer.proofs.Naming.{named-refused, named-known, named-claims}
 use borrow.Author.Needs.{needs}

@@ -1,7 +1,7 @@
 -- A first chunk settles the time, and a later one leaves it.
-use Rattle.deserializer.specs.Rows.{timed}
+use Rattle.chunk_meaning.specs.Stored.{timed}
 use Rattle.deserializer.specs.Machine.{current, opens, reader}
-use Rattle.deserializer.specs.declared.rows.Row.{Row}
+use Rattle.chunk_meaning.specs.declared.Row.{Row}
 use Rattle.deserializer.specs.declared.reader.Reader.{Reader}
 use borrow.Author.Tests.{eq-eqb, ne-eqb}
 use mathlib.Core.Path.{ap, _∙_}

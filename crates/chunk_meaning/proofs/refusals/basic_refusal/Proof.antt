@@ -1,8 +1,8 @@
 -- The lines of the table in their order.
-use Rattle.deserializer.specs.Meaning.{basicRefusal}
+use Rattle.chunk_meaning.specs.Meaning.{basicRefusal}
 use borrow.Author.Needs.{needs}
-use Rattle.deserializer.proofs.refusals.basic_refusal.Statement.{statement}
-use Rattle.deserializer.proofs.refusals.basic_refusal.Tie as tie
+use Rattle.chunk_meaning.proofs.refusals.basic_refusal.Statement.{statement}
+use Rattle.chunk_meaning.proofs.refusals.basic_refusal.Tie as tie
 
 refuses-9-requires : tie.Need-refuses-9-requires
 refuses-9-requires c κs = search needs

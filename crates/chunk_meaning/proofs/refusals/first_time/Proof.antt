@@ -1,7 +1,7 @@
 -- Type by type; deltas are added by the clock.
 use borrow.Author.Needs.{needs}
-use Rattle.deserializer.proofs.refusals.first_time.Statement.{statement}
-use Rattle.deserializer.proofs.refusals.first_time.Tie as tie
+use Rattle.chunk_meaning.proofs.refusals.first_time.Statement.{statement}
+use Rattle.chunk_meaning.proofs.refusals.first_time.Tie as tie
 
 enum-told : tie.Need-enum-told
 enum-told c = search needs

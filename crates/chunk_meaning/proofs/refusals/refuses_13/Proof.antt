@@ -1,8 +1,8 @@
 -- Each test that fails ends it.
 use borrow.Author.Tests.{eq-eqb, ne-eqb}
 use borrow.Author.Needs.{needs}
-use Rattle.deserializer.proofs.refusals.refuses_13.Statement.{statement}
-use Rattle.deserializer.proofs.refusals.refuses_13.Tie as tie
+use Rattle.chunk_meaning.proofs.refusals.refuses_13.Statement.{statement}
+use Rattle.chunk_meaning.proofs.refusals.refuses_13.Tie as tie
 
 is-full-requires : tie.Need-is-full-requires
 is-full-requires c κs = search needs

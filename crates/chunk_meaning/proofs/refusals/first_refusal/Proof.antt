@@ -1,9 +1,9 @@
 -- The lines of the table in their order.
 use borrow.Author.Tests.{lt-ltb, le-ltb}
-use Rattle.deserializer.specs.Meaning.{firstRefusal}
+use Rattle.chunk_meaning.specs.Meaning.{firstRefusal}
 use borrow.Author.Needs.{needs}
-use Rattle.deserializer.proofs.refusals.first_refusal.Statement.{statement}
-use Rattle.deserializer.proofs.refusals.first_refusal.Tie as tie
+use Rattle.chunk_meaning.proofs.refusals.first_refusal.Statement.{statement}
+use Rattle.chunk_meaning.proofs.refusals.first_refusal.Tie as tie
 
 refuses-13-requires : tie.Need-refuses-13-requires
 refuses-13-requires c κs = search needs

@@ -1,7 +1,7 @@
 -- Each field that differs ends the comparison.
 use borrow.Author.Tests.{eq-eqb, ne-eqb}
-use Rattle.deserializer.proofs.refusals.repeats.Statement.{statement}
-use Rattle.deserializer.proofs.refusals.repeats.Tie as tie
+use Rattle.chunk_meaning.proofs.refusals.repeats.Statement.{statement}
+use Rattle.chunk_meaning.proofs.refusals.repeats.Tie as tie
 
 returns : tie.Need-returns
 returns c = simp (ne-eqb _ _ (c .if1 .taken))

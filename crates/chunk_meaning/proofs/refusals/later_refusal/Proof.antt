@@ -1,8 +1,8 @@
 -- The one line of the table.
-use Rattle.deserializer.specs.Meaning.{laterRefusal}
+use Rattle.chunk_meaning.specs.Meaning.{laterRefusal}
 use borrow.Author.Needs.{needs}
-use Rattle.deserializer.proofs.refusals.later_refusal.Statement.{statement}
-use Rattle.deserializer.proofs.refusals.later_refusal.Tie as tie
+use Rattle.chunk_meaning.proofs.refusals.later_refusal.Statement.{statement}
+use Rattle.chunk_meaning.proofs.refusals.later_refusal.Tie as tie
 
 is-full-requires : tie.Need-is-full-requires
 is-full-requires c κs = search needs

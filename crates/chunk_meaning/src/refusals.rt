@@ -2,8 +2,8 @@
 ghost use mathlib.Core.Path.{_≡_};
 ghost use mathlib.Core.Bool.{_&&_, not};
 ghost use lib.Dec.{eqb, ltb};
-ghost use Rattle.deserializer.specs.Meaning.{basicRefusal, firstRefusal, firstTime, isEmpty, isFull, laterRefusal, maxField, repeats as Meaning·repeats};
-use crate::rows::Row;
+ghost use Rattle.chunk_meaning.specs.Meaning.{basicRefusal, firstRefusal, firstTime, isEmpty, isFull, laterRefusal, maxField, repeats as Meaning·repeats};
+use crate::Row;
 use chunk_header::ChunkHeaderFormat;
 use time::RtmpTimestamp;
 

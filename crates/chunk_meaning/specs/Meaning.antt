@@ -7,7 +7,7 @@ use Rattle.fields.specs.Cases.{_when_, first}
 use Rattle.time.specs.Clock.{sum}
 use Rattle.chunk_header.specs.declared.ChunkHeaderFormat.{ChunkHeaderFormat}
 use Rattle.chunk_header.specs.declared.ChunkHeaderFormat.the-variants.{Full, TimeDeltaWithoutMessageStreamId, TimeDeltaOnly, Empty}
-use Rattle.deserializer.specs.declared.rows.Row.{Row}
+use Rattle.chunk_meaning.specs.declared.Row.{Row}
 
 -- a time field that says that an extended time follows
 abbrev pub maxField : ℕ
