@@ -3,6 +3,7 @@
 mod decode;
 mod encode;
 mod first_bytes;
+mod kept;
 mod plan;
 
 use crate::decode::Arrived;
