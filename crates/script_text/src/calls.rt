@@ -5,10 +5,9 @@ use crate::hex::read_hex;
 use crate::names::read_event_name;
 use crate::numbers::Number;
 use crate::numbers::read_number;
-use crate::words::count;
-use crate::words::nth;
-use crate::words::word;
+use crate::words::find;
 use check::same;
+use test_parts::part;
 
 // The most numbers that a call has.
 const MOST: usize = 6;
@@ -42,6 +41,14 @@ impl Call {
     fn bad(mut self) -> Self {
         self.is_good = false;
         self
+    }
+
+    // At the end of the form: whether it is the end of the line too.
+    fn ended(self, is_end: bool) -> Self {
+        if is_end {
+            return self;
+        }
+        self.bad()
     }
 
     // With one more number.
@@ -98,35 +105,45 @@ fn is_small(word: &[u8]) -> bool {
     b'a' <= word[0]
 }
 
-// What the line says, where it is of this form, the one at `place`.
+// What the line says, where it is of this form, the one at `place`. Line and form are gone through word by word, and must end
+// together.
 fn read_form(form: &[u8], place: usize, line: &[u8], bytes: &mut [u8]) -> Call {
-    let all = count(form, b' ');
     let mut call = Call::new(place);
-    let mut i = 0;
-    while i < all {
-        call = call.word(word(form, i), word(line, i), bytes);
-        if !call.is_good {
-            return call;
+    let mut from = 0;
+    let mut at = 0;
+    while call.is_good {
+        let form_end = find(form, from, b' ');
+        let end = find(line, at, b' ');
+        call = call.word(part(form, from, form_end), part(line, at, end), bytes);
+        if form.len() <= form_end {
+            return call.ended(end == line.len());
         }
-        i += 1;
-    }
-    if count(line, b' ') != all {
-        return call.bad();
+        if line.len() <= end {
+            return call.bad();
+        }
+        from = form_end + 1;
+        at = std::num::wrapping_add_usize(end, 1);
     }
     call
 }
 
-// What the line says by the first form that it is of; the forms are parted by commas. Where it is of none, `form` is how many
-// there are. The bytes that it says are put at the start of `bytes`.
+// What the line says by the first form that it is of; the forms are parted by commas. Where it is of none, `form` is past all
+// places. The bytes that it says are put at the start of `bytes`.
 pub fn read_call(forms: &[u8], line: &[u8], bytes: &mut [u8]) -> Call {
-    let all = count(forms, b',');
-    let mut place = 0;
-    while place < all {
-        let call = read_form(nth(forms, place, b','), place, line, bytes);
+    let none = Call::new(usize::MAX);
+    let mut place: usize = 0;
+    let mut from = 0;
+    while from < forms.len() {
+        let end = find(forms, from, b',');
+        let call = read_form(part(forms, from, end), place, line, bytes);
         if call.is_good {
             return call;
         }
+        if forms.len() <= end {
+            return none;
+        }
         place += 1;
+        from = end + 1;
     }
-    Call::new(all)
+    none
 }

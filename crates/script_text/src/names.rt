@@ -1,24 +1,30 @@
 // Lists of names.
 use crate::numbers::Number;
 use crate::text::put_words;
-use crate::words::count;
+use crate::words::find;
 use crate::words::word;
 use check::same;
+use test_parts::part;
 
 // The user control events that have one number.
 const EVENTS: [u8; 44] = *b"begin end dry recorded ping pong empty ready";
 
 // The place of the name in the list; how many there are where it is none of them.
 pub fn place_of(names: &[u8], name: &[u8]) -> usize {
-    let all = count(names, b' ');
-    let mut place = 0;
-    while place < all {
-        if same(word(names, place), name) {
+    let mut place: usize = 0;
+    let mut from = 0;
+    while from < names.len() {
+        let end = find(names, from, b' ');
+        if same(part(names, from, end), name) {
             return place;
         }
         place += 1;
+        if names.len() <= end {
+            return place;
+        }
+        from = end + 1;
     }
-    all
+    place
 }
 
 // The place of the event's name as a number.

@@ -1,14 +1,14 @@
--- `script_text::words::nth` is safe and ends. No more parts are passed than the place says; the measure is how many are left to pass.
+-- `script_text::words::word` is safe and ends. No more words are passed than the place says; the measure is how many are left to pass.
 use Prim.Native.Nat.{_≤_, _-_}
 use borrow.Author.Needs.{needs}
-use Rattle.script_text.proofs.words.nth.Statement.{statement}
-use Rattle.script_text.proofs.words.nth.Tie as tie
+use Rattle.script_text.proofs.words.word.Statement.{statement}
+use Rattle.script_text.proofs.words.word.Tie as tie
 
 abbrev Inv-loop : tie.InvT-loop
-Inv-loop bytes place by start₀ passed₀ start passed = passed ≤ place
+Inv-loop line place start₀ passed₀ start passed = passed ≤ place
 
 abbrev μ-loop : tie.MeasureT-loop
-μ-loop bytes place by start₀ passed₀ start passed = place - passed
+μ-loop line place start₀ passed₀ start passed = place - passed
 
 loop-holds : tie.Need-loop-holds Inv-loop μ-loop
 loop-holds c = search needs
@@ -43,8 +43,8 @@ part-requires c κs = search needs
 returns-2 : tie.Need-returns-2 Inv-loop μ-loop
 returns-2 c = search needs
 
-pub nth-spec : {M : Type 1} → statement M
-nth-spec =
+pub word-spec : {M : Type 1} → statement M
+word-spec =
     tie.close
     (tie.spec
     Inv-loop
