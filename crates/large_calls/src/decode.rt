@@ -10,6 +10,16 @@ fn wide(number: u32) -> u64 {
     number as u64
 }
 
+// Tells that more is wanted, and nothing else yet.
+fn clear(report: &mut [u64; 8]) {
+    report[0] = 0;
+    report[1] = 0;
+    report[2] = 0;
+    report[3] = 0;
+    report[4] = 0;
+    report[5] = 0;
+}
+
 // Tells a message.
 fn tell_message(type_id: u8, stream_id: u32, time: u32, length: u32, report: &mut [u64; 8]) {
     report[0] = 1;
@@ -23,6 +33,7 @@ fn tell_message(type_id: u8, stream_id: u32, time: u32, length: u32, report: &mu
 fn tell(walked: Walked, report: &mut [u64; 8]) {
     let walk = walked.walk;
     let answer = walked.answer;
+    clear(report);
     report[6] = walk.used as u64;
     report[7] = walk.calls;
     match answer {
@@ -33,9 +44,7 @@ fn tell(walked: Walked, report: &mut [u64; 8]) {
             length,
             used: _,
         } => tell_message(type_id, stream_id, timestamp.value, length, report),
-        Answer::More { used: _ } => {
-            report[0] = 0;
-        }
+        Answer::More { used: _ } => {}
         Answer::Refused { number, used: _ } => {
             report[0] = 2;
             report[1] = number as u64;
