@@ -141,11 +141,11 @@ fn offer(so_far: Walk, input: &[u8], payload: &mut [u8]) -> Walked {
     }
 }
 
-// Offers pieces up to the first message or refusal, or to the end of the input. The calls are counted down from a number that
-// no input uses up.
+// Offers pieces up to the first message or refusal, or to the end of the input. A call that is offered a byte uses one, so there
+// are no more calls than bytes; where there would be, something is wrong, and bytes are left.
 pub fn next_answer(so_far: Walk, input: &[u8], payload: &mut [u8]) -> Walked {
     let mut walked = offer(so_far, input, payload);
-    let mut turns = u64::MAX;
+    let mut turns = input.len();
     while 0 < turns {
         if walked.is_done(input.len()) {
             return walked;
