@@ -32,7 +32,7 @@ firstTime TimeDeltaWithoutMessageStreamId before number = sum before number
 firstTime TimeDeltaOnly before number = sum before number
 firstTime Empty before number = sum before number
 
--- what is refused at the last byte of a basic header. `has-row`: the stream has a row; `room`: a row is free;
+-- what is refused at the last byte of a basic header. `has-row`: the stream has a row; `free`: a row is free;
 -- `inside`: a message is unfinished, and `own`: on this stream. 0: nothing is refused.
 unfoldable pub basicRefusal : ChunkHeaderFormat → (has-row free inside own : Bool) → ℕ
 basicRefusal format has-row free inside own =

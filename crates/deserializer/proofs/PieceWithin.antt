@@ -1,26 +1,19 @@
 -- Payload bytes that do not end their chunk, one by one, are one copy and a smaller count of bytes that the chunk lacks.
-use Prim.Native.Nat.{ℕ, _+_, _-_, _<_}
+use Prim.Native.Nat.{ℕ, _+_, _-_}
 use mathlib.Core.Path.{_≡_, sym, ap, _∙_}
 use mathlib.Core.List.{List, [], append-nil}
 use native.Mathlib.Omega.{arith}
 use lib.ListN.{length}
 use lib.Seq.{sets}
-use borrow.Author.Tests.{ne-eqb}
 use Rattle.fields.specs.Output.{stored}
 use Rattle.fields.proofs.Lists.{stored-fits}
 use Rattle.deserializer.specs.declared.ChunkDeserializer.{ChunkDeserializer}
-use Rattle.deserializer.specs.declared.reader.Reader.{Reader}
 use Rattle.deserializer.specs.declared.reader.Stepped.{Stepped}
 use Rattle.deserializer.specs.Answer.{more}
 use Rattle.deserializer.specs.Call.{after, next, outcome, run}
-use Rattle.deserializer.specs.Machine.{go, landed, paid}
+use Rattle.deserializer.specs.Machine.{landed}
 use Rattle.deserializer.specs.Within.{Lies, nearer}
-use Rattle.deserializer.proofs.Runs.{bulk, next-runs, then}
-
--- bytes that do not end their chunk settle nothing
-landed-short : (r : Reader) (n : ℕ) → n < r .chunk .left → landed r n ≡ go (paid r (r .message .got + n) (r .chunk .left - n))
-unfolding landed
-landed-short r n h = rw (ne-eqb (r .chunk .left - n) 0 (omega arith))
+use Rattle.deserializer.proofs.Runs.{bulk, landed-short, next-runs, then}
 
 module _ (d : ChunkDeserializer) (input payload : List ℕ) (w : Lies d (length input) (length payload)) where
   runs-short : run input d payload 0 ≡ outcome (more (length input)) (nearer d (length input)) (sets payload (d .reader .message .got) input)

@@ -13,12 +13,12 @@ use Rattle.deserializer.specs.declared.ChunkDeserializer.{ChunkDeseriali
 use Rattle.deserializer.specs.declared.reader.Event.{Event}
 use Rattle.deserializer.specs.declared.reader.Event.the-variants.{Go, Chunk, Message, Refuse}
 use Rattle.deserializer.specs.declared.reader.Reader.{Reader}
-use Rattle.deserializer.specs.Machine.{inPayload, lacks, pays, reader}
+use Rattle.deserializer.specs.Machine.{lacks, reader}
 use Rattle.deserializer.specs.Answer.{refused}
 use Rattle.deserializer.specs.Call.{Outcome, after, closes, end, isRefusal, next, outcome, putAt, run, stepOf, writes}
 use Rattle.deserializer.specs.Told.{between, fresh, made, maxRoom, maxSize, outcome as told-outcome, refused as no-size, sized, taken, told}
 use Rattle.deserializer.proofs.Sound.{Sound, never, step-sound}
-use Rattle.deserializer.proofs.Fitting.{Fits, fitting-fits, lengthOf, paying-pays, quiet-fits, step-fits}
+use Rattle.deserializer.proofs.Fitting.{Fits, fitting-fits, lengthOf, quiet-fits, step-fits}
 
 -- what holds of every decoder that calls can make
 pub record Reached (d : ChunkDeserializer) : Type 0 where
@@ -124,11 +124,7 @@ made-reached room = by-cases (eqb room 0 || ltb maxRoom room)
     by-cases true = fresh-reached room 6 (λ e. omega arith)
     by-cases false = fresh-reached room 0 (λ e. omega arith)
 
--- a reader in a payload lacks a byte, and its chunk ends within the room ..
-pub payload-pays : (d : ChunkDeserializer) → Reached d → inPayload (d .reader .stage) ≡ true → pays (d .room) (d .reader) ≡ true
-payload-pays d k p = paying-pays (d .room) _ (d .reader) (k .fits .paying p)
-
--- .. so the guard against any other is never answered by a byte
+-- a reader in a payload lacks a byte, and its chunk ends within the room, so the guard against any other is never answered by a byte
 pub step-unguarded : (d : ChunkDeserializer) (b : ℕ) → Reached d → stepOf d b .event ≢ Refuse 255
 step-unguarded d b k = step-fits d b (k .some) (k .sound) (k .fits) .guard
 

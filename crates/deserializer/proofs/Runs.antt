@@ -71,9 +71,10 @@ module _ (b : ℕ) (bs : List ℕ) (d : ChunkDeserializer) (payload : List ℕ) 
 abbrev nearer : Reader → Reader
 nearer r = paid r (r .message .got + 1) (r .chunk .left - 1)
 
-landed-first : (r : Reader) → 1 < r .chunk .left → landed r 1 ≡ go (nearer r)
+-- bytes of payload that do not end their chunk settle nothing
+pub landed-short : (r : Reader) (n : ℕ) → n < r .chunk .left → landed r n ≡ go (paid r (r .message .got + n) (r .chunk .left - n))
 unfolding landed
-landed-first r p = rw (ne-eqb (r .chunk .left - 1) 0 (omega arith))
+landed-short r n h = rw (ne-eqb (r .chunk .left - n) 0 (omega arith))
 
 landed-next : (r : Reader) (k : ℕ) → landed (nearer r) k ≡ landed r (suc k)
 unfolding landed
@@ -102,7 +103,7 @@ bulk (x ∷ []) rest d payload n s h k r = run-payload x rest d payload n s (pay
 bulk (x ∷ y ∷ xs) rest d payload n s h k r =
     let e : n + 1 + length (y ∷ xs) ≡ n + length (x ∷ y ∷ xs) = omega arith in
     run-payload x (y ∷ xs ++ rest) d payload n s (pays-is (d .room) (d .reader) (omega arith) r)
-    ∙ (rw (landed-first (d .reader) (omega arith)))
+    ∙ (rw (landed-short (d .reader) 1 (omega arith)))
     ∙ bulk (y ∷ xs) rest (holding d (nearer (d .reader))) (set payload (d .reader .message .got) x) (n + 1) s (omega arith) (omega arith) (omega arith)
     ∙ held-forgotten d (nearer (d .reader)) (landed (nearer (d .reader)) (length (y ∷ xs))) _ _ rest (landed-not-refused (nearer (d .reader)) (length (y ∷ xs)))
     ∙ (rw (landed-next (d .reader) (length (y ∷ xs)), e, add-one))
