@@ -1,4 +1,5 @@
 pub mod Basic
 pub mod Header
 pub mod Layout
+pub mod Limits
 pub mod Table

@@ -1,6 +1,6 @@
 -- Field lengths by chunk type (document 01, "A chunk on the wire").
 use Prim.Native.Nat.{ℕ, _+_}
-use mathlib.Core.Bool.{cond}
+use mathlib.Core.Bool.{Bool, true, false, cond}
 use mathlib.Core.List.{List, [], _∷_}
 use lib.Dec.{ltb, leb}
 use lib.ListN.{getD}
@@ -16,6 +16,19 @@ typeOf Full = 0
 typeOf TimeDeltaWithoutMessageStreamId = 1
 typeOf TimeDeltaOnly = 2
 typeOf Empty = 3
+
+-- type 0, and type 3
+abbrev pub isFull : ChunkHeaderFormat → Bool
+isFull Full = true
+isFull TimeDeltaWithoutMessageStreamId = false
+isFull TimeDeltaOnly = false
+isFull Empty = false
+
+abbrev pub isEmpty : ChunkHeaderFormat → Bool
+isEmpty Full = false
+isEmpty TimeDeltaWithoutMessageStreamId = false
+isEmpty TimeDeltaOnly = false
+isEmpty Empty = true
 
 -- "the top two bits are the type"
 unfoldable pub formatOf : ℕ → ChunkHeaderFormat

@@ -38,6 +38,14 @@ pub enum Csid {
     Incomplete,
 }
 
+// A time field that says that an extended time follows.
+pub const MAX_INITIAL_TIMESTAMP: u32 = 16777215;
+
+// The chunk size at the start, and the largest one.
+pub const INITIAL_MAX_CHUNK_SIZE: u32 = 128;
+
+pub const LARGEST_CHUNK_SIZE: u32 = 2147483647;
+
 // Field lengths by chunk type: timestamp, message length, message type, message stream.
 const FIELD_LENGTHS: [usize; 16] = [3, 3, 1, 4, 3, 3, 1, 0, 3, 0, 0, 0, 0, 0, 0, 0];
 

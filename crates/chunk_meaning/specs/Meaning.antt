@@ -1,36 +1,18 @@
 -- What a chunk means (document 01, "Decoder"; Adobe 5.3.1.2): what may start, what may go on, what the time is.
 use Prim.Native.Nat.{ℕ}
-use mathlib.Core.Bool.{Bool, true, false, not, _&&_}
+use mathlib.Core.Bool.{Bool, cond, not, _&&_}
 use mathlib.Core.List.{[], _∷_}
 use lib.Dec.{ltb, eqb}
 use Rattle.fields.specs.Cases.{_when_, first}
 use Rattle.time.specs.Clock.{sum}
 use Rattle.chunk_header.specs.declared.ChunkHeaderFormat.{ChunkHeaderFormat}
-use Rattle.chunk_header.specs.declared.ChunkHeaderFormat.the-variants.{Full, TimeDeltaWithoutMessageStreamId, TimeDeltaOnly, Empty}
+use Rattle.chunk_header.specs.Limits.{maxField}
+use Rattle.chunk_header.specs.Table.{isEmpty, isFull}
 use Rattle.chunk_meaning.specs.declared.Row.{Row}
-
--- a time field that says that an extended time follows
-abbrev pub maxField : ℕ
-maxField = 16777215
-
-abbrev pub isFull : ChunkHeaderFormat → Bool
-isFull Full = true
-isFull TimeDeltaWithoutMessageStreamId = false
-isFull TimeDeltaOnly = false
-isFull Empty = false
-
-abbrev pub isEmpty : ChunkHeaderFormat → Bool
-isEmpty Full = false
-isEmpty TimeDeltaWithoutMessageStreamId = false
-isEmpty TimeDeltaOnly = false
-isEmpty Empty = true
 
 -- "type 0 sets the time. Other types add the delta once, at the first chunk of a message"
 abbrev pub firstTime : ChunkHeaderFormat → ℕ → ℕ → ℕ
-firstTime Full before number = number
-firstTime TimeDeltaWithoutMessageStreamId before number = sum before number
-firstTime TimeDeltaOnly before number = sum before number
-firstTime Empty before number = sum before number
+firstTime format before number = cond (isFull format) number (sum before number)
 
 -- what is refused at the last byte of a basic header. `has-row`: the stream has a row; `free`: a row is free;
 -- `inside`: a message is unfinished, and `own`: on this stream. 0: nothing is refused.

@@ -4,7 +4,6 @@ ghost use Rattle.chunk_meaning.specs.Stored.{fielded as Stored·fielded,
 
 mod refusals;
 
-pub use crate::refusals::MAX_INITIAL_TIMESTAMP;
 pub use crate::refusals::basic_refusal;
 pub use crate::refusals::first_refusal;
 pub use crate::refusals::first_time;

@@ -2,13 +2,13 @@
 ghost use mathlib.Core.Path.{_≡_};
 ghost use mathlib.Core.Bool.{_&&_, not};
 ghost use lib.Dec.{eqb, ltb};
-ghost use Rattle.chunk_meaning.specs.Meaning.{basicRefusal, firstRefusal, firstTime, isEmpty, isFull, laterRefusal, maxField, repeats as Meaning·repeats};
+ghost use Rattle.chunk_meaning.specs.Meaning.{basicRefusal, firstRefusal, firstTime, laterRefusal, repeats as Meaning·repeats};
+ghost use Rattle.chunk_header.specs.Table.{isEmpty, isFull};
+ghost use Rattle.chunk_header.specs.Limits.{maxField};
 use crate::Row;
 use chunk_header::ChunkHeaderFormat;
+use chunk_header::MAX_INITIAL_TIMESTAMP;
 use time::RtmpTimestamp;
-
-// A time field that says that an extended time follows.
-pub const MAX_INITIAL_TIMESTAMP: u32 = 16777215;
 
 fn is_full(format: ChunkHeaderFormat) -> bool
     ensures { λ r. ⌜ r ≡ isFull format ⌝ }
@@ -165,12 +165,8 @@ pub fn first_refusal(format: ChunkHeaderFormat, header: Row, number: u32, room: 
 pub fn first_time(format: ChunkHeaderFormat, before: RtmpTimestamp, number: u32) -> RtmpTimestamp
     ensures { λ r. ⌜ r .value ≡ firstTime format (before .value) number ⌝ }
 {
-    match format {
-        ChunkHeaderFormat::Full => RtmpTimestamp::new(number),
-        ChunkHeaderFormat::TimeDeltaWithoutMessageStreamId => before.add(RtmpTimestamp::new(
-            number,
-        )),
-        ChunkHeaderFormat::TimeDeltaOnly => before.add(RtmpTimestamp::new(number)),
-        ChunkHeaderFormat::Empty => before.add(RtmpTimestamp::new(number)),
+    if is_full(format) {
+        return RtmpTimestamp::new(number);
     }
+    before.add(RtmpTimestamp::new(number))
 }

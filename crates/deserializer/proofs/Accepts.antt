@@ -20,7 +20,8 @@ use Rattle.deserializer.specs.Answer.{refused}
 use Rattle.deserializer.specs.Call.{Outcome, after, run}
 use Rattle.deserializer.specs.Chunk.{ChunkFits, FormFits, HeadFits, basicRefused, carried, formatFor, got, header, headerRefused, inside, left, row, says}
 use Rattle.deserializer.specs.Machine.{refuse}
-use Rattle.chunk_meaning.specs.Meaning.{basicRefusal, firstRefusal, isEmpty, isFull, laterRefusal}
+use Rattle.chunk_meaning.specs.Meaning.{basicRefusal, firstRefusal, laterRefusal}
+use Rattle.chunk_header.specs.Table.{isEmpty, isFull}
 use Rattle.deserializer.specs.Rows.{find, free}
 use Rattle.deserializer.proofs.Fields.{Reaches}
 use Rattle.deserializer.proofs.Fitting.{first-fits, inside-tells, later-length, lengthOf}

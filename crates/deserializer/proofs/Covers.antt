@@ -14,7 +14,7 @@ use Rattle.chunk_header.specs.Layout.{Chunk, Form, one, two, three, Header, typ
 use Rattle.deserializer.specs.declared.ChunkDeserializer.{ChunkDeserializer}
 use Rattle.chunk_meaning.specs.declared.Row.{Row}
 use Rattle.deserializer.specs.Chunk.{ChunkFits, ExtendedFits, FormFits, HeaderFits, carried, header, left, row, rowOf}
-use Rattle.chunk_meaning.specs.Meaning.{maxField}
+use Rattle.chunk_header.specs.Limits.{maxField}
 use Rattle.deserializer.proofs.Reading.{last-digit, other-digits}
 
 -- the first n bytes say a number below 256 ^ n, and the others follow

@@ -11,7 +11,7 @@ use borrow.Author.Tests.{ne-eqb, eqb-true, eqb-false, lt-ltb, ltb-true, ltb-fals
 use Rattle.fields.specs.Cases.{_when_, first}
 use Rattle.chunk_header.specs.declared.ChunkHeaderFormat.{ChunkHeaderFormat}
 use Rattle.chunk_header.specs.declared.ChunkHeaderFormat.the-variants.{Full, TimeDeltaWithoutMessageStreamId, TimeDeltaOnly, Empty}
-use Rattle.chunk_header.specs.Table.{fieldLength, formatOf, lastType, typeOf}
+use Rattle.chunk_header.specs.Table.{fieldLength, formatOf, lastType, typeOf, isEmpty, isFull}
 use Rattle.deserializer.specs.declared.ChunkDeserializer.{ChunkDeserializer}
 use Rattle.deserializer.specs.declared.reader.Event.the-variants.{Go, Chunk, Message, Refuse}
 use Rattle.deserializer.specs.declared.reader.Reader.{Reader}
@@ -20,7 +20,8 @@ use Rattle.deserializer.specs.declared.reader.Stage.the-variants.{Csid a
 use Rattle.deserializer.specs.declared.reader.Stepped.{Stepped}
 use Rattle.chunk_meaning.specs.declared.Row.{Row}
 use Rattle.deserializer.specs.Machine.{at, basic, basicBy, claims, current, ended, extendedField, extendedNext, gathered, go, headed, inPayload, known, lacks, landed, lengthField, lengthNext, named, opens, paid, paused, pays, reader, refuse, stepped, streamField, streamNext, swapped, timestampField, timestampNext, typeField, typeNext, unfinished, whole}
-use Rattle.chunk_meaning.specs.Meaning.{basicRefusal, firstRefusal, firstTime, isEmpty, isFull, laterRefusal, maxField, repeats}
+use Rattle.chunk_meaning.specs.Meaning.{basicRefusal, firstRefusal, firstTime, laterRefusal, repeats}
+use Rattle.chunk_header.specs.Limits.{maxField}
 use Rattle.chunk_meaning.specs.Stored.{fielded, lengthed, streamed, timed, typed}
 use Rattle.deserializer.specs.Rows.{find, free, putRow, rowAt}
 use Rattle.deserializer.specs.Answer.{refused}

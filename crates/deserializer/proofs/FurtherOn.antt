@@ -26,7 +26,8 @@ use Rattle.deserializer.specs.Call.{after, end, run}
 use Rattle.deserializer.specs.Chunk.{ChunkFits, basicRefused, got, header, headerRefused, row, stored}
 use Rattle.deserializer.specs.Further.{Amid, Begins, Chunks, Further, Furthers, Next, gone, staying}
 use Rattle.deserializer.specs.Machine.{current, reader, unfinished}
-use Rattle.chunk_meaning.specs.Meaning.{basicRefusal, laterRefusal, maxField}
+use Rattle.chunk_meaning.specs.Meaning.{basicRefusal, laterRefusal}
+use Rattle.chunk_header.specs.Limits.{maxField}
 use Rattle.deserializer.specs.Rows.{find, numbers, putRow, rowAt}
 use Rattle.deserializer.specs.Turn.{whole}
 use Rattle.deserializer.proofs.ReadsBack.{Within, claiming, finished, reads-back}

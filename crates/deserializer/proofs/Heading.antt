@@ -27,7 +27,8 @@ use Rattle.deserializer.specs.Call.{run}
 use Rattle.deserializer.specs.Chunk.{HeadFits, HeaderFits, basicRefused, carried, formatFor, got, header, headerRefused, row}
 use Rattle.deserializer.specs.Head.{Heads, Known, headerIn, refusalOf, settledBy}
 use Rattle.deserializer.specs.Machine.{inPayload, opens, stepped, swapped}
-use Rattle.chunk_meaning.specs.Meaning.{basicRefusal, firstRefusal, laterRefusal, maxField}
+use Rattle.chunk_meaning.specs.Meaning.{basicRefusal, firstRefusal, laterRefusal}
+use Rattle.chunk_header.specs.Limits.{maxField}
 use Rattle.deserializer.specs.Rows.{find, free, rowAt}
 use Rattle.deserializer.specs.Told.{atStart}
 use Rattle.deserializer.specs.Turn.{whole}

@@ -16,7 +16,8 @@ use Rattle.deserializer.specs.declared.reader.Reader.{Reader}
 use Rattle.deserializer.specs.Machine.{lacks, reader}
 use Rattle.deserializer.specs.Answer.{refused}
 use Rattle.deserializer.specs.Call.{Outcome, after, closes, end, isRefusal, next, outcome, putAt, run, stepOf, writes}
-use Rattle.deserializer.specs.Told.{between, fresh, made, maxRoom, maxSize, outcome as told-outcome, refused as no-size, sized, taken, told}
+use Rattle.deserializer.specs.Told.{between, fresh, made, maxRoom, outcome as told-outcome, refused as no-size, sized, taken, told}
+use Rattle.chunk_header.specs.Limits.{maxSize}
 use Rattle.deserializer.proofs.Sound.{Sound, never, step-sound}
 use Rattle.deserializer.proofs.Fitting.{Fits, fitting-fits, lengthOf, quiet-fits, step-fits}
 

@@ -22,7 +22,7 @@ use Rattle.deserializer.specs.Call.{Outcome, after, run}
 use Rattle.deserializer.specs.Chunk.{ExtendedFits, HeaderFits, carried, formatFor, says}
 use Rattle.deserializer.specs.Machine.{at, current, extendedField, extendedNext, headed, lengthField, lengthNext, reader, streamField, streamNext, swapped, timestampField, timestampNext, typeField, typeNext, whole}
 use Rattle.chunk_meaning.specs.Stored.{fielded, lengthed, streamed, typed}
-use Rattle.chunk_meaning.specs.Meaning.{maxField}
+use Rattle.chunk_header.specs.Limits.{maxField}
 use Rattle.deserializer.proofs.Fields.{Reaches, field}
 use Rattle.deserializer.proofs.Runs.{holding, run-header, then}
 

@@ -13,7 +13,7 @@ use Rattle.chunk_header.specs.declared.ChunkHeaderFormat.{ChunkHeaderFormat}
 use Rattle.chunk_header.specs.declared.Csid.{Csid}
 use Rattle.chunk_header.specs.declared.Csid.the-variants.{Id, Incomplete}
 use Rattle.chunk_header.specs.Basic.{afterOne, afterZero, csid}
-use Rattle.chunk_header.specs.Table.{formatOf}
+use Rattle.chunk_header.specs.Table.{formatOf, isEmpty, isFull}
 use Rattle.deserializer.specs.declared.ChunkDeserializer.{ChunkDeserializer}
 use Rattle.deserializer.specs.declared.reader.Reader.{Reader}
 use Rattle.deserializer.specs.declared.reader.Stage.{Stage}
@@ -21,7 +21,8 @@ use Rattle.deserializer.specs.declared.reader.Stage.the-variants.{Csid a
 use Rattle.deserializer.specs.declared.reader.Stepped.{Stepped}
 use Rattle.chunk_meaning.specs.declared.Row.{Row}
 use Rattle.deserializer.specs.Machine.{at, basic, basicBy, claims, current, ended, extendedField, extendedNext, gathered, go, headed, inPayload, known, lacks, landed, lengthField, lengthNext, named, opens, paid, paused, pays, reader, refuse, stepped, streamField, streamNext, swapped, timestampField, timestampNext, typeField, typeNext, whole}
-use Rattle.chunk_meaning.specs.Meaning.{basicRefusal, firstRefusal, firstTime, isEmpty, isFull, laterRefusal, maxField}
+use Rattle.chunk_meaning.specs.Meaning.{basicRefusal, firstRefusal, firstTime, laterRefusal}
+use Rattle.chunk_header.specs.Limits.{maxField}
 use Rattle.chunk_meaning.specs.Stored.{claimed, fielded, lengthed, streamed, timed, typed}
 use Rattle.deserializer.specs.Rows.{find, free, putRow, rowAt}
 use Rattle.deserializer.specs.Answer.{refused}

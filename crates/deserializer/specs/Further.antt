@@ -15,7 +15,7 @@ use Rattle.deserializer.specs.declared.reader.Stage.the-variants.{Csid}
 use Rattle.chunk_meaning.specs.declared.Row.{Row}
 use Rattle.deserializer.specs.Call.{run}
 use Rattle.deserializer.specs.Machine.{current, reader, unfinished}
-use Rattle.chunk_meaning.specs.Meaning.{maxField}
+use Rattle.chunk_header.specs.Limits.{maxField}
 use Rattle.deserializer.specs.Rows.{find, putRow, rowAt}
 use Rattle.deserializer.specs.Turn.{follows, whole}
 

@@ -18,7 +18,8 @@ use Rattle.deserializer.specs.declared.reader.Stage.the-variants.{Csid a
 use Rattle.deserializer.specs.declared.reader.Stepped.{Stepped}
 use Rattle.deserializer.specs.declared.reader.Unfinished.{Unfinished}
 use Rattle.chunk_meaning.specs.declared.Row.{Row}
-use Rattle.chunk_meaning.specs.Meaning.{maxField, firstTime, basicRefusal, laterRefusal, firstRefusal}
+use Rattle.chunk_meaning.specs.Meaning.{firstTime, basicRefusal, laterRefusal, firstRefusal}
+use Rattle.chunk_header.specs.Limits.{maxField}
 use Rattle.chunk_meaning.specs.Stored.{claimed, fielded, lengthed, streamed, timed, typed}
 use Rattle.deserializer.specs.Rows.{find, free, rowAt}
 

@@ -6,6 +6,7 @@ use lib.Dec.{ltb, eqb}
 use lib.ListN.{replicate}
 use Rattle.fields.specs.Cases.{_when_, first}
 use Rattle.chunk_header.specs.declared.ChunkHeaderFormat.the-variants.{Full}
+use Rattle.chunk_header.specs.Limits.{initialSize, maxLength, maxSize}
 use Rattle.deserializer.specs.declared.ChunkDeserializer.{ChunkDeserializer}
 use Rattle.deserializer.specs.declared.Telling.{Telling}
 use Rattle.deserializer.specs.declared.Telling.the-variants.{Taken, Refused}
@@ -39,12 +40,9 @@ outcome answer d = record { answer = answer; deserializer = d }
 abbrev pub unsized : ChunkDeserializer → ℕ → Told
 unsized d n = record { deserializer = d; telling = Refused n }
 
--- the largest room, and the largest chunk size
+-- the largest room: no message is longer
 abbrev pub maxRoom : ℕ
-maxRoom = 16777215
-
-abbrev pub maxSize : ℕ
-maxSize = 2147483647
+maxRoom = maxLength
 
 -- before the first byte of a chunk
 abbrev pub atStart : Stage → Bool
@@ -74,11 +72,11 @@ told d size =
     ∷ outcome (refused 8) d when not (between (d .reader))
     ∷ []) (outcome taken (sized d size))
 
--- a decoder to which nothing has come: chunk size 128, no row used
+-- a decoder to which nothing has come: no row is used
 abbrev pub fresh : ℕ → ℕ → ChunkDeserializer
 fresh room closed = record {
   room = room;
-  «max_chunk_size» = 128;
+  «max_chunk_size» = initialSize;
   closed = closed;
   reader = reader Csid (current Full 64 (claimed 0) (claimed 0) 0) (unfinished 0 0);
   rows = replicate 384 0;

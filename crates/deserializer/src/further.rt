@@ -20,7 +20,7 @@ use crate::rows::ROWS;
 use crate::rows::find;
 use crate::rows::row_at;
 use chunk_header::ChunkHeaderFormat;
-use chunk_meaning::MAX_INITIAL_TIMESTAMP;
+use chunk_header::MAX_INITIAL_TIMESTAMP;
 use chunk_meaning::Row;
 use fields::put_bytes;
 

@@ -30,13 +30,12 @@ use crate::rows::ROWS;
 use crate::within::lies_within;
 use crate::within::take_within;
 use chunk_header::ChunkHeaderFormat;
+use chunk_header::INITIAL_MAX_CHUNK_SIZE;
+use chunk_header::LARGEST_CHUNK_SIZE;
 use chunk_meaning::Row;
 use time::RtmpTimestamp;
 
-const INITIAL_MAX_CHUNK_SIZE: u32 = 128;
-
-const LARGEST_CHUNK_SIZE: u32 = 2147483647;
-
+// No message is longer.
 const LARGEST_ROOM: u32 = 16777215;
 
 // A decoder: its room, the chunk size in force, the number that it is closed with (0: it is open), the reader of one byte

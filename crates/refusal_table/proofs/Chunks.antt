@@ -11,7 +11,9 @@ use Rattle.chunk_header.specs.Layout.{Chunk, Form, one, two, three, Header, typ
 use Rattle.deserializer.specs.declared.ChunkDeserializer.{ChunkDeserializer}
 use Rattle.chunk_meaning.specs.declared.Row.{Row}
 use Rattle.deserializer.specs.Chunk.{ExtendedFits, FormFits, HeadFits, basicRefused, carried, formatFor, header, headerRefused, inside, row, rowOf, says}
-use Rattle.chunk_meaning.specs.Meaning.{basicRefusal, firstRefusal, isEmpty, isFull, laterRefusal, maxField, repeats}
+use Rattle.chunk_meaning.specs.Meaning.{basicRefusal, firstRefusal, laterRefusal, repeats}
+use Rattle.chunk_header.specs.Table.{isEmpty, isFull}
+use Rattle.chunk_header.specs.Limits.{maxField}
 use Rattle.deserializer.specs.Rows.{find, free, rowAt}
 use Rattle.deserializer.proofs.Reached.{Reached}
 use Rattle.deserializer.proofs.RowLaws.{Distinct, find-none, find-tells}

@@ -11,7 +11,8 @@ use Rattle.fields.specs.Endian.{bigEndian}
 use Rattle.serializer.specs.declared.ChunkSerializer.{ChunkSerializer}
 use Rattle.serializer.specs.declared.format.Message.{Message}
 use Rattle.serializer.specs.Answer.{Answer, refused, wrote}
-use Rattle.serializer.specs.Serialize.{Outcome, accept, maxLength, maxSize, needed, packetOf, refuse, serialized, sizeChanged, sizeMessage}
+use Rattle.serializer.specs.Serialize.{Outcome, accept, needed, packetOf, refuse, serialized, sizeChanged, sizeMessage}
+use Rattle.chunk_header.specs.Limits.{maxLength, maxSize}
 use Rattle.refusal_table.specs.Table.{sizePacket}
 use Rattle.refusal_table.specs.Terms.{OneOf}
 use Rattle.refusal_table.proofs.Deciding.{alone, equal, here, later, less, neither}

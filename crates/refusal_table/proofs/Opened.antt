@@ -16,7 +16,8 @@ use Rattle.deserializer.specs.declared.reader.Event.{Event}
 use Rattle.deserializer.specs.declared.reader.Event.the-variants.{Go, Chunk, Message, Refuse}
 use Rattle.deserializer.specs.Answer.{message, more, refused}
 use Rattle.deserializer.specs.Call.{Outcome, after, end, next, run, stepOf, writes}
-use Rattle.deserializer.specs.Told.{between, fresh, made, maxRoom, maxSize, outcome as telling, refused as no-size, sized, taken, told}
+use Rattle.deserializer.specs.Told.{between, fresh, made, maxRoom, outcome as telling, refused as no-size, sized, taken, told}
+use Rattle.chunk_header.specs.Limits.{maxSize}
 use Rattle.deserializer.proofs.Covers.{bytes-append}
 use Rattle.deserializer.proofs.Cut.{has-run, run-append, run-kept, run-shift, shift}
 use Rattle.deserializer.proofs.Progress.{more-uses-all}

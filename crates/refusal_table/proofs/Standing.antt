@@ -22,7 +22,8 @@ use Rattle.deserializer.specs.declared.reader.Stepped.{Stepped}
 use Rattle.deserializer.specs.Answer.{message, more, refused}
 use Rattle.deserializer.specs.Call.{Outcome, after, closes, end, isRefusal, outcome, run, stepOf, writes}
 use Rattle.deserializer.specs.Machine.{at, basicBy, claims, current, ended, extendedField, extendedNext, gathered, go, headed, inPayload, lacks, landed, lengthField, lengthNext, named, opens, paid, paused, pays, reader, refuse, stepped, streamField, streamNext, swapped, timestampField, timestampNext, typeField, typeNext, unfinished, whole}
-use Rattle.chunk_meaning.specs.Meaning.{basicRefusal, firstRefusal, firstTime, laterRefusal, maxField}
+use Rattle.chunk_meaning.specs.Meaning.{basicRefusal, firstRefusal, firstTime, laterRefusal}
+use Rattle.chunk_header.specs.Limits.{maxField}
 use Rattle.chunk_meaning.specs.Stored.{fielded, lengthed, streamed, timed, typed}
 use Rattle.deserializer.specs.Rows.{find, free, rowAt}
 use Rattle.deserializer.specs.Told.{atStart, between}

@@ -16,7 +16,8 @@ use Rattle.deserializer.specs.declared.ChunkDeserializer.{ChunkDeserializer}
 use Rattle.deserializer.specs.declared.reader.Reader.{Reader}
 use Rattle.deserializer.specs.declared.reader.Stage.the-variants.{Csid}
 use Rattle.deserializer.specs.Call.{run}
-use Rattle.deserializer.specs.Told.{between, outcome as telling, sized, taken, told, maxRoom, maxSize, made}
+use Rattle.deserializer.specs.Told.{between, outcome as telling, sized, taken, told, maxRoom, made}
+use Rattle.chunk_header.specs.Limits.{maxSize}
 use Rattle.deserializer.proofs.Reached.{Reached, told-reached}
 use Rattle.deserializer.proofs.Sound.{never}
 use Rattle.round_trip.specs.Demand3.{Call, Demand3, HandsOut, InRange, LeavesOutDroppable, Message, Packet, Ranged, Receiver, Sending, Tell, bytes, encodes, keep, kept, last, log, longest, mayBeLeftOut, message, messageOf, receiver, resize, send, tellOf, tellFirst}

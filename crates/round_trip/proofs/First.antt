@@ -16,12 +16,14 @@ use Rattle.chunk_header.specs.Layout.{Chunk}
 use Rattle.serializer.specs.declared.format.Message.{Message}
 use Rattle.serializer.specs.Header.{delta, format, timeField}
 use Rattle.serializer.specs.Message.{chunkStream}
-use Rattle.serializer.specs.Packet.{chunk, extended, maxField}
+use Rattle.serializer.specs.Packet.{chunk, extended}
+use Rattle.chunk_header.specs.Limits.{maxField}
 use Rattle.deserializer.specs.declared.ChunkDeserializer.{ChunkDeserializer}
 use Rattle.chunk_meaning.specs.declared.Row.{Row}
 use Rattle.deserializer.specs.Chunk.{ChunkFits, basicRefused, headerRefused, stored}
 use Rattle.deserializer.specs.Chunk.{header as headed}
-use Rattle.chunk_meaning.specs.Meaning.{firstRefusal, basicRefusal, isFull}
+use Rattle.chunk_meaning.specs.Meaning.{firstRefusal, basicRefusal}
+use Rattle.chunk_header.specs.Table.{isFull}
 use Rattle.deserializer.specs.Rows.{find, free}
 use Rattle.round_trip.proofs.Held.{Held, Spare, free-some}
 use Rattle.round_trip.proofs.Wire.{Fits, Taken, extended-fits, fields-fit, row-held, row-id, rowFor, says-field}

@@ -18,7 +18,8 @@ use Rattle.serializer.specs.declared.format.Message.{Message as Parameters}
 use Rattle.serializer.specs.Answer.{wrote, refused}
 use Rattle.serializer.specs.Header.{delta}
 use Rattle.serializer.specs.Message.{message as to-encode}
-use Rattle.serializer.specs.Serialize.{Outcome, accept, maxLength, maxSize, packetOf, refuse, remember, serialized, sizeChanged, sizeMessage}
+use Rattle.serializer.specs.Serialize.{Outcome, accept, packetOf, refuse, remember, serialized, sizeChanged, sizeMessage}
+use Rattle.chunk_header.specs.Limits.{maxLength, maxSize}
 use Rattle.serializer.proofs.Stream.{stream-range}
 use Rattle.round_trip.specs.Demand3.{Call, Ranged, encodes, resize, send}
 use Rattle.round_trip.proofs.First.{headerBy}

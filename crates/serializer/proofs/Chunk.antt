@@ -13,7 +13,8 @@ use Rattle.chunk_header.specs.Layout.{absent, present, format, chunkBytes, head
 use Rattle.chunk_header.proofs.Table.{header-most}
 use Rattle.chunk_header.specs.Table.{typeOf, fieldLength, headerLength}
 use Rattle.fields.specs.Endian.{bigEndian, littleEndian}
-use Rattle.serializer.specs.Packet.{chunk, messageHeader, extended, maxField}
+use Rattle.serializer.specs.Packet.{chunk, messageHeader, extended}
+use Rattle.chunk_header.specs.Limits.{maxField}
 
 pub chunk-split : (f : ChunkHeaderFormat) (h : ChunkHeader) (payload : List ℕ) → chunkBytes (chunk f h payload) ≡ chunkBytes (chunk f h []) ++ payload
 unfolding chunkBytes

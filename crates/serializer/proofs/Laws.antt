@@ -18,7 +18,8 @@ use Rattle.serializer.specs.Answer.{refused}
 use Rattle.serializer.specs.Header.{delta, format, header, timeField}
 use Rattle.serializer.specs.Message.{message}
 use Rattle.serializer.specs.Packet.{chunk, chunksOf, chunks, cut, extended, laterFormat, pieces, packet, roundedUp}
-use Rattle.serializer.specs.Serialize.{Outcome, refuse, accept, maxLength, packetOf, serialized}
+use Rattle.serializer.specs.Serialize.{Outcome, refuse, accept, packetOf, serialized}
+use Rattle.chunk_header.specs.Limits.{maxLength}
 use Rattle.serializer.proofs.Chunk.{head-most, length-head, extended-most}
 use Rattle.serializer.proofs.PacketLength.{head, length-packet}
 use Rattle.serializer.proofs.Pieces.{rounded-up}

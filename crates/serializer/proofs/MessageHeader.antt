@@ -12,7 +12,8 @@ use Rattle.chunk_header.specs.Table.{typeOf, fieldLength, headerLength}
 use Rattle.fields.specs.Endian.{bigEndian, littleEndian}
 use Rattle.fields.specs.Output.{Adds}
 use Rattle.fields.proofs.Lists.{adds-none, adds-same, adds-then}
-use Rattle.serializer.specs.Packet.{messageHeader, maxField}
+use Rattle.serializer.specs.Packet.{messageHeader}
+use Rattle.chunk_header.specs.Limits.{maxField}
 
 -- the fields, as the encoder has them
 abbrev pub timeBytes : ChunkHeader → List ℕ

@@ -13,21 +13,8 @@ use Rattle.serializer.specs.declared.format.Message.{Message}
 use Rattle.serializer.specs.declared.plan.Plan.{Plan}
 use Rattle.serializer.specs.Answer.{answerOf}
 use Rattle.serializer.specs.Packet.{chunksOf, joined, pieces, packet}
-use Rattle.serializer.specs.Serialize.{
-  outcomeOf,
-  unsent,
-  maxLength,
-  maxSize,
-  planned,
-  previous,
-  rowOf,
-  packetOf,
-  sent,
-  serialized,
-  sizeMessage,
-  sizeChanged,
-  needed,
-}
+use Rattle.serializer.specs.Serialize.{outcomeOf, unsent, planned, previous, rowOf, packetOf, sent, serialized, sizeMessage, sizeChanged, needed}
+use Rattle.chunk_header.specs.Limits.{maxLength, maxSize}
 
 -- the bytes of a plan
 abbrev pub planBytes : Plan → List ℕ → List ℕ

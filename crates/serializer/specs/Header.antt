@@ -8,6 +8,7 @@ use Rattle.time.specs.Clock.{difference}
 use Rattle.chunk_header.specs.declared.ChunkHeader.{ChunkHeader}
 use Rattle.chunk_header.specs.declared.ChunkHeaderFormat.{ChunkHeaderFormat}
 use Rattle.chunk_header.specs.declared.ChunkHeaderFormat.the-variants.{Full, TimeDeltaWithoutMessageStreamId, TimeDeltaOnly, Empty}
+use Rattle.chunk_header.specs.Table.{isFull}
 use Rattle.serializer.specs.declared.format.FirstChunk.{FirstChunk}
 use Rattle.serializer.specs.declared.format.Message.{Message}
 use Rattle.serializer.specs.Message.{chunkStream}
@@ -31,10 +32,7 @@ format m previous =
 
 -- all 32 bits of the time field: the absolute time in type 0, else the delta
 abbrev pub timeField : ChunkHeaderFormat → ℕ → ℕ → ℕ
-timeField Full time delta = time
-timeField TimeDeltaWithoutMessageStreamId time delta = delta
-timeField TimeDeltaOnly time delta = delta
-timeField Empty time delta = delta
+timeField format time delta = cond (isFull format) time delta
 
 -- what is remembered
 abbrev pub header : Message → ChunkHeader → ChunkHeader

@@ -8,13 +8,11 @@ use Rattle.chunk_header.specs.declared.ChunkHeader.{ChunkHeader}
 use Rattle.chunk_header.specs.declared.ChunkHeaderFormat.{ChunkHeaderFormat}
 use Rattle.chunk_header.specs.declared.ChunkHeaderFormat.the-variants.{Full, TimeDeltaWithoutMessageStreamId, TimeDeltaOnly, Empty}
 use Rattle.chunk_header.specs.Layout.{Chunk, Header, Extended, one, type0, type1, type2, type3, absent, present, chunkBytes}
+use Rattle.chunk_header.specs.Limits.{maxField}
 use Rattle.serializer.specs.Header.{format, header}
 use Rattle.serializer.specs.declared.format.Message.{Message}
 
--- a time field of this or more is sent as this, with an extended time
-abbrev pub maxField : ℕ
-maxField = 16777215
-
+-- "a time field of 16777215 means that a 4-byte extended time follows the header"
 abbrev pub extended : ℕ → Extended
 extended time = cond (ltb time maxField) absent (present time)
 

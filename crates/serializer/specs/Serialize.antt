@@ -9,6 +9,7 @@ use Rattle.fields.specs.Endian.{bigEndian}
 use Rattle.fields.specs.Output.{over}
 use Rattle.chunk_header.specs.declared.ChunkHeader.{ChunkHeader}
 use Rattle.chunk_header.specs.Header.{nothing}
+use Rattle.chunk_header.specs.Limits.{initialSize, maxLength, maxSize}
 use Rattle.serializer.specs.declared.ChunkSerializer.{ChunkSerializer}
 use Rattle.serializer.specs.declared.Packet.{Packet}
 use Rattle.serializer.specs.declared.Serialized.{Serialized}
@@ -30,13 +31,6 @@ outcomeOf r output = record { answer = answerOf (r .packet); serializer = r .ser
 
 abbrev pub unsent : ChunkSerializer → Packet → Serialized
 unsent s packet = record { serializer = s; packet = packet }
-
--- the longest message, and the largest chunk size
-abbrev pub maxLength : ℕ
-maxLength = 16777215
-
-abbrev pub maxSize : ℕ
-maxSize = 2147483647
 
 -- the chunk size in force, which no call makes 0
 abbrev pub sizeOf : ChunkSerializer → ℕ
@@ -92,9 +86,9 @@ sizeChanged s size time output =
     ∷ refuse s output 5 when ltb (length output) (length (packetOf s (sizeMessage time) (bigEndian 4 size)))
     ∷ []) (accept s (sizeMessage time) (bigEndian 4 size) size output)
 
--- a fresh encoder: nothing remembered, chunk size 128
+-- a fresh encoder: nothing remembered
 abbrev pub fresh : ChunkSerializer
-fresh = record { «previous_headers» = replicate 5 nothing; «max_chunk_size» = 128 }
+fresh = record { «previous_headers» = replicate 5 nothing; «max_chunk_size» = initialSize }
 
 -- what a message takes, were the output long enough
 unfoldable pub needed : ChunkSerializer → Message → List ℕ → Answer

@@ -7,10 +7,8 @@ ghost use Rattle.chunk_header.specs.Layout.{chunkBytes, extendedBytes};
 ghost use Rattle.serializer.specs.Packet.{chunk, chunksOf, extended, joined, pieces};
 use chunk_header::ChunkHeader;
 use chunk_header::ChunkHeaderFormat;
+use chunk_header::MAX_INITIAL_TIMESTAMP;
 use chunk_header::header_length;
-
-// A time field of this or more is sent as this, with an extended time.
-pub const MAX_INITIAL_TIMESTAMP: u32 = 16777215;
 
 // What the extended time takes.
 pub fn extended_length(timestamp_field: u32) -> usize

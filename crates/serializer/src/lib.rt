@@ -4,7 +4,8 @@ ghost use lib.ListN.{length};
 ghost use Rattle.serializer.specs.Answer.{answerOf};
 ghost use Prim.Native.Nat.{_<_, _≤_};
 ghost use Rattle.serializer.specs.Message.{message as Message·message};
-ghost use Rattle.serializer.specs.Serialize.{fresh, maxLength, needed, outcomeOf, planned, previous, sent, serialized, sizeChanged, unsent};
+ghost use Rattle.serializer.specs.Serialize.{fresh, needed, outcomeOf, planned, previous, sent, serialized, sizeChanged, unsent};
+ghost use Rattle.chunk_header.specs.Limits.{maxLength};
 
 mod format;
 mod length;
@@ -18,14 +19,12 @@ use crate::plan::bytes_needed;
 use crate::plan::plan_packet;
 use crate::write::write_packet;
 use chunk_header::ChunkHeader;
+use chunk_header::INITIAL_MAX_CHUNK_SIZE;
+use chunk_header::LARGEST_CHUNK_SIZE;
 use fields::put_number;
 use time::RtmpTimestamp;
 
-const INITIAL_MAX_CHUNK_SIZE: u32 = 128;
-
 const MAX_MESSAGE_LENGTH: usize = 16777215;
-
-const LARGEST_CHUNK_SIZE: u32 = 2147483647;
 
 // Rows 0 to 4 are those of chunk streams 2 to 6.
 pub struct ChunkSerializer {
