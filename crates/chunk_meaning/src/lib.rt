@@ -1,6 +1,6 @@
 // What a chunk means: what is stored of its stream, what is refused, and what the time is.
 ghost use mathlib.Core.Path.{_≡_};
-ghost use Rattle.chunk_meaning.specs.Stored.{fielded as Stored·fielded, lengthed as Stored·lengthed, streamed as Stored·streamed, timed as Stored·timed, typed as Stored·typed};
+ghost use Rattle.chunk_meaning.specs.Stored.{claimed as Stored·claimed, fielded as Stored·fielded, lengthed as Stored·lengthed, streamed as Stored·streamed, timed as Stored·timed, typed as Stored·typed};
 
 mod refusals;
 
@@ -18,6 +18,20 @@ pub struct Row {
     pub message_length: u32,
     pub message_type_id: u8,
     pub message_stream_id: u32,
+}
+
+// A row that has just been claimed.
+pub fn claimed(id: u32) -> Row
+    ensures { λ r. ⌜ r ≡ Stored·claimed id ⌝ }
+{
+    Row {
+        id: id,
+        timestamp: RtmpTimestamp { value: 0 },
+        timestamp_field: 0,
+        message_length: 0,
+        message_type_id: 0,
+        message_stream_id: 0,
+    }
 }
 
 // A row with one of its numbers replaced.

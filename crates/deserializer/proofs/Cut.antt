@@ -10,11 +10,12 @@ use lib.Dec.{eqb, ltb}
 use lib.ListN.{length, set, length-set}
 use borrow.Author.Tests.{ltb-false, eqb-true}
 use Rattle.deserializer.specs.declared.ChunkDeserializer.{ChunkDeserializer}
-use Rattle.deserializer.specs.declared.reader.Event.{Event}
-use Rattle.deserializer.specs.declared.reader.Event.the-variants.{Go, Chunk, Message, Refuse}
+use Rattle.byte_machine.specs.declared.reader.Event.{Event}
+use Rattle.byte_machine.specs.declared.reader.Event.the-variants.{Go, Chunk, Message, Refuse}
 use Rattle.deserializer.specs.Answer.{Listed, message, more, refused}
 use Rattle.deserializer.specs.Call.{Outcome, after, closes, end, next, outcome, run, stepOf, writes}
-use Rattle.deserializer.specs.Machine.{inPayload, pays}
+use Rattle.byte_machine.specs.Payload.{pays}
+use Rattle.byte_machine.specs.Reader.{inPayload}
 use Rattle.deserializer.proofs.Runs.{next-runs}
 
 -- an outcome that asks for more goes on with b; any other stands

@@ -10,11 +10,12 @@ use lib.ListN.{length}
 use borrow.Author.Tests.{lt-leb}
 use Rattle.fields.specs.Endian.{Bytes, gather}
 use Rattle.deserializer.specs.declared.ChunkDeserializer.{ChunkDeserializer}
-use Rattle.deserializer.specs.declared.reader.Reader.{Reader}
-use Rattle.deserializer.specs.declared.reader.Stage.{Stage}
-use Rattle.deserializer.specs.declared.reader.Stepped.{Stepped}
+use Rattle.byte_machine.specs.declared.reader.Reader.{Reader}
+use Rattle.byte_machine.specs.declared.reader.Stage.{Stage}
+use Rattle.byte_machine.specs.declared.reader.Stepped.{Stepped}
 use Rattle.deserializer.specs.Call.{Outcome, after, run}
-use Rattle.deserializer.specs.Machine.{at, gathered, go, inPayload, stepped}
+use Rattle.byte_machine.specs.Step.{gathered, stepped}
+use Rattle.byte_machine.specs.Reader.{at, go, inPayload}
 use Rattle.deserializer.proofs.Runs.{holding, run-header, then}
 
 -- a number of at most three digits, and one digit more

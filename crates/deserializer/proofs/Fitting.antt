@@ -11,23 +11,29 @@ use borrow.Author.Tests.{ne-eqb, eqb-true, eqb-false, lt-ltb, ltb-true, ltb-fals
 use Rattle.fields.specs.Cases.{_when_, first}
 use Rattle.chunk_header.specs.declared.ChunkHeaderFormat.{ChunkHeaderFormat}
 use Rattle.chunk_header.specs.declared.ChunkHeaderFormat.the-variants.{Full, TimeDeltaWithoutMessageStreamId, TimeDeltaOnly, Empty}
-use Rattle.chunk_header.specs.Table.{fieldLength, formatOf, lastType, typeOf, isEmpty, isFull}
+use Rattle.chunk_header.specs.declared.HeaderField.{HeaderField}
+use Rattle.chunk_header.specs.declared.HeaderField.the-variants.{Timestamp, MessageLength as Length, MessageTypeId as TypeId, MessageStreamId as StreamId}
+use Rattle.chunk_header.specs.Table.{fieldLength, formatOf, indexOf, typeOf, isEmpty, isFull}
 use Rattle.deserializer.specs.declared.ChunkDeserializer.{ChunkDeserializer}
-use Rattle.deserializer.specs.declared.reader.Event.the-variants.{Go, Chunk, Message, Refuse}
-use Rattle.deserializer.specs.declared.reader.Reader.{Reader}
-use Rattle.deserializer.specs.declared.reader.Stage.{Stage}
-use Rattle.deserializer.specs.declared.reader.Stage.the-variants.{Csid as AtCsid, CsidSecond, CsidThird, InitialTimestamp, MessageLength, MessageTypeId, MessageStreamId, ExtendedTimestamp, MessagePayload}
-use Rattle.deserializer.specs.declared.reader.Stepped.{Stepped}
+use Rattle.byte_machine.specs.declared.reader.Event.the-variants.{Go, Chunk, Message, Refuse}
+use Rattle.byte_machine.specs.declared.reader.Reader.{Reader}
+use Rattle.byte_machine.specs.declared.reader.Stage.{Stage}
+use Rattle.byte_machine.specs.declared.reader.Stage.the-variants.{Csid as AtCsid, CsidSecond, CsidThird, InitialTimestamp, MessageLength, MessageTypeId, MessageStreamId, ExtendedTimestamp, MessagePayload}
+use Rattle.byte_machine.specs.declared.reader.Stepped.{Stepped}
 use Rattle.chunk_meaning.specs.declared.Row.{Row}
-use Rattle.deserializer.specs.Machine.{at, basic, basicBy, claims, current, ended, extendedField, extendedNext, gathered, go, headed, inPayload, known, lacks, landed, lengthField, lengthNext, named, opens, paid, paused, pays, reader, refuse, stepped, streamField, streamNext, swapped, timestampField, timestampNext, typeField, typeNext, unfinished, whole}
+use Rattle.byte_machine.specs.Payload.{landed, paid, pays}
+use Rattle.byte_machine.specs.Step.{basic, basicBy, claims, extendedField, gathered, known, lengthField, named, stepped, streamField, swapped, timestampField, typeField}
+use Rattle.byte_machine.specs.Header.{extendedNext, lacks, lengthNext, opens, stageOf, streamNext, timestampNext, typeNext, whole}
+use Rattle.byte_machine.specs.Reader.{at, current, ended, go, headed, inPayload, paused, reader, refuse, unfinished}
 use Rattle.chunk_meaning.specs.Meaning.{basicRefusal, firstRefusal, firstTime, laterRefusal, repeats}
 use Rattle.chunk_header.specs.Limits.{maxField}
 use Rattle.chunk_meaning.specs.Stored.{fielded, lengthed, streamed, timed, typed}
-use Rattle.deserializer.specs.Rows.{find, free, putRow, rowAt}
+use Rattle.byte_machine.specs.Rows.{find, free, putRow, rowAt, putAt}
 use Rattle.deserializer.specs.Answer.{refused}
-use Rattle.deserializer.specs.Call.{next, putAt, stepOf}
+use Rattle.deserializer.specs.Call.{next, stepOf}
 use Rattle.deserializer.proofs.Runs.{pays-is}
-use Rattle.deserializer.proofs.RowLaws.{Distinct, find-tells, id-put, put-number}
+use Rattle.byte_machine.proofs.Passing.{tested, at-stream, at-type, at-length, at-timestamp}
+use Rattle.byte_machine.proofs.RowLaws.{Distinct, find-tells, id-put, put-number}
 use Rattle.deserializer.proofs.Sound.{Leaves, Sound, clash, csid-used, found, in-payload-past, never, past}
 
 -- the fields that a chunk inside a message has only in a full header
@@ -143,20 +149,28 @@ basic-small format has-row unused inside own =
     by-cases false false false true = omega arith
     by-cases false false false false = omega arith
 
--- a test, with what it tells
-tested : (P : Stepped → Type 0) (t : Bool) {a b : Stepped} → (t ≡ true → P a) → (t ≡ false → P b) → P (cond t a b)
-tested P true p q = p refl
-tested P false p q = q refl
-
 -- a format that has a field, inside a message, is full
-has-field : (format : ChunkHeaderFormat) (field : ℕ) → leb 3 (lastType field) ≡ false → (isFull format ≡ false → isEmpty format ≡ true)
-    → eqb (fieldLength (typeOf format) field) 0 ≡ false
+has-field : (format : ChunkHeaderFormat) (field : HeaderField) → (isFull format ≡ false → isEmpty format ≡ true)
+    → eqb (fieldLength (typeOf format) (indexOf field)) 0 ≡ false
     → isFull format ≡ true
 unfolding fieldLength
-has-field Full field k h e = refl
-has-field TimeDeltaWithoutMessageStreamId field k h e = never (h refl)
-has-field TimeDeltaOnly field k h e = never (h refl)
-has-field Empty field k h e = absurd (let z : fieldLength 3 field ≡ 0 = rw k in eqb-false (fieldLength 3 field) 0 e z)
+has-field Full field h e = refl
+has-field TimeDeltaWithoutMessageStreamId field h e = never (h refl)
+has-field TimeDeltaOnly field h e = never (h refl)
+has-field Empty field h e = never (sym e ∙ none field)
+  where
+    none : (field : HeaderField) → eqb (fieldLength 3 (indexOf field)) 0 ≡ true
+    none Timestamp = refl
+    none Length = refl
+    none TypeId = refl
+    none StreamId = refl
+
+-- a field is no payload
+no-payload : (field : HeaderField) (n : ℕ) → inPayload (stageOf field n) ≡ false
+no-payload Timestamp n = refl
+no-payload Length n = refl
+no-payload TypeId n = refl
+no-payload StreamId n = refl
 
 -- a first chunk that is not refused fits
 pub first-fits : (format : ChunkHeaderFormat) (header : Row) (number room : ℕ) → firstRefusal format header number room ≡ 0 → header .«message_length» ≤ room
@@ -314,36 +328,24 @@ module _ (room size L : ℕ) (some : 0 < size) where
       (λ e. whole-fits r (r .chunk .header .«timestamp_field») f later)
 
   -- a field that the format has comes next
-  field-fits : (r : Reader) (stage : Stage) (field : ℕ) → leb 3 (lastType field) ≡ false → inPayload stage ≡ false
-      → eqb (lacks r field) 0 ≡ false
-      → Fits room L r
-      → (r .message .id ≢ 0 → Later L r)
-      → Fitting room L (r .message .id) (go (at r stage))
-  field-fits r stage field k p e f later =
-      go-fits (at r stage) (fits-at room L r stage (λ q. later) (λ q n. has-field (r .chunk .format) field k (later n .empty) e) p f)
+  stops-fit : (r : Reader) → Fits room L r → (r .message .id ≢ 0 → Later L r) → (field : HeaderField) → eqb (lacks r field) 0 ≡ false
+      → Fitting room L (r .message .id) (go (at r (stageOf field (lacks r field))))
+  stops-fit r f later field e =
+      let stage = stageOf field (lacks r field) in
+      go-fits (at r stage)
+      (fits-at room L r stage (λ q. later) (λ q n. has-field (r .chunk .format) field (later n .empty) e) (no-payload field (lacks r field)) f)
 
   stream-fits : (r : Reader) → Fits room L r → (r .message .id ≢ 0 → Later L r) → Fitting room L (r .message .id) (streamNext room size r)
-  unfolding streamNext
-  stream-fits r f later =
-      tested (Fitting room L (r .message .id)) (eqb (lacks r 3) 0) (λ e. extended-fits r f later)
-      (λ e. field-fits r (MessageStreamId 0 (lacks r 3)) 3 refl refl e f later)
+  stream-fits r f later = at-stream (Fitting room L (r .message .id)) room size r (stops-fit r f later) (extended-fits r f later)
 
   type-fits : (r : Reader) → Fits room L r → (r .message .id ≢ 0 → Later L r) → Fitting room L (r .message .id) (typeNext room size r)
-  unfolding typeNext
-  type-fits r f later =
-      tested (Fitting room L (r .message .id)) (eqb (lacks r 2) 0) (λ e. stream-fits r f later) (λ e. field-fits r MessageTypeId 2 refl refl e f later)
+  type-fits r f later = at-type (Fitting room L (r .message .id)) room size r (stops-fit r f later) (extended-fits r f later)
 
   length-fits : (r : Reader) → Fits room L r → (r .message .id ≢ 0 → Later L r) → Fitting room L (r .message .id) (lengthNext room size r)
-  unfolding lengthNext
-  length-fits r f later =
-      tested (Fitting room L (r .message .id)) (eqb (lacks r 1) 0) (λ e. type-fits r f later)
-      (λ e. field-fits r (MessageLength 0 (lacks r 1)) 1 refl refl e f later)
+  length-fits r f later = at-length (Fitting room L (r .message .id)) room size r (stops-fit r f later) (extended-fits r f later)
 
   timestamp-fits : (r : Reader) → Fits room L r → (r .message .id ≢ 0 → Later L r) → Fitting room L (r .message .id) (timestampNext room size r)
-  unfolding timestampNext
-  timestamp-fits r f later =
-      tested (Fitting room L (r .message .id)) (eqb (lacks r 0) 0) (λ e. length-fits r f later)
-      (λ e. field-fits r (InitialTimestamp 0 (lacks r 0)) 0 refl refl e f later)
+  timestamp-fits r f later = at-timestamp (Fitting room L (r .message .id)) room size r (stops-fit r f later) (extended-fits r f later)
 
   -- a byte of payload
   paused-fits : (r : Reader) (got m : ℕ) → r .chunk .place < 64 → got < r .chunk .header .«message_length» → r .chunk .header .«message_length» ≤ room

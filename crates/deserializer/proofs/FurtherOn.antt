@@ -17,21 +17,21 @@ use Rattle.chunk_header.specs.Layout.{Chunk, absent, chunkBytes, one, type3}
 use Rattle.deserializer.specs.declared.ChunkDeserializer.{ChunkDeserializer}
 use Rattle.deserializer.specs.declared.call.Core.{Core}
 use Rattle.deserializer.specs.declared.call.Moved.{Moved}
-use Rattle.deserializer.specs.declared.reader.Event.{Event}
-use Rattle.deserializer.specs.declared.reader.Event.the-variants.{Chunk as ChunkEnds}
+use Rattle.byte_machine.specs.declared.reader.Event.{Event}
+use Rattle.byte_machine.specs.declared.reader.Event.the-variants.{Chunk as ChunkEnds}
 use Rattle.chunk_meaning.specs.declared.Row.{Row}
-use Rattle.deserializer.specs.declared.reader.Stage.the-variants.{Csid}
+use Rattle.byte_machine.specs.declared.reader.Stage.the-variants.{Csid}
 use Rattle.chunk_header.specs.declared.ChunkHeaderFormat.the-variants.{Empty}
 use Rattle.deserializer.specs.Call.{after, end, run}
 use Rattle.deserializer.specs.Chunk.{ChunkFits, basicRefused, got, header, headerRefused, row, stored}
 use Rattle.deserializer.specs.Further.{Amid, Begins, Chunks, Further, Furthers, Next, gone, staying}
-use Rattle.deserializer.specs.Machine.{current, reader, unfinished}
+use Rattle.byte_machine.specs.Reader.{current, reader, unfinished}
 use Rattle.chunk_meaning.specs.Meaning.{basicRefusal, laterRefusal}
 use Rattle.chunk_header.specs.Limits.{maxField}
-use Rattle.deserializer.specs.Rows.{find, numbers, putRow, rowAt}
+use Rattle.byte_machine.specs.Rows.{find, numbers, putRow, rowAt}
 use Rattle.deserializer.specs.Turn.{whole}
 use Rattle.deserializer.proofs.ReadsBack.{Within, claiming, finished, reads-back}
-use Rattle.deserializer.proofs.RowLaws.{find-tells}
+use Rattle.byte_machine.proofs.RowLaws.{find-tells}
 use Rattle.deserializer.proofs.Sound.{clash}
 
 module _ (d : ChunkDeserializer) (input : List ℕ) (at place n : ℕ) (r : Row) (a : Amid d place r)

@@ -20,22 +20,23 @@ use Rattle.chunk_header.proofs.Table.{type-of-byte}
 use Rattle.deserializer.specs.declared.ChunkDeserializer.{ChunkDeserializer}
 use Rattle.deserializer.specs.declared.call.Core.{Core}
 use Rattle.deserializer.specs.declared.head.Taken.{Taken}
-use Rattle.deserializer.specs.declared.reader.Stage.{Stage}
-use Rattle.deserializer.specs.declared.reader.Stage.the-variants.{Csid, CsidSecond, CsidThird, InitialTimestamp, MessageLength, MessageTypeId, MessageStreamId, ExtendedTimestamp, MessagePayload}
+use Rattle.byte_machine.specs.declared.reader.Stage.{Stage}
+use Rattle.byte_machine.specs.declared.reader.Stage.the-variants.{Csid, CsidSecond, CsidThird, InitialTimestamp, MessageLength, MessageTypeId, MessageStreamId, ExtendedTimestamp, MessagePayload}
 use Rattle.chunk_meaning.specs.declared.Row.{Row}
 use Rattle.deserializer.specs.Call.{run}
 use Rattle.deserializer.specs.Chunk.{HeadFits, HeaderFits, basicRefused, carried, formatFor, got, header, headerRefused, row}
 use Rattle.deserializer.specs.Head.{Heads, Known, headerIn, refusalOf, settledBy}
-use Rattle.deserializer.specs.Machine.{inPayload, opens, stepped, swapped}
+use Rattle.byte_machine.specs.Step.{stepped, swapped}
+use Rattle.byte_machine.specs.Header.{opens}
+use Rattle.byte_machine.specs.Reader.{inPayload, atStart}
 use Rattle.chunk_meaning.specs.Meaning.{basicRefusal, firstRefusal, laterRefusal}
 use Rattle.chunk_header.specs.Limits.{maxField}
-use Rattle.deserializer.specs.Rows.{find, free, rowAt}
-use Rattle.deserializer.specs.Told.{atStart}
+use Rattle.byte_machine.specs.Rows.{find, free, rowAt}
 use Rattle.deserializer.specs.Turn.{whole}
 use Rattle.deserializer.proofs.Covers.{written}
 use Rattle.deserializer.proofs.Reading.{turned}
 use Rattle.deserializer.proofs.ReadsBack.{basicOf, claiming, headOf, opened, settled}
-use Rattle.deserializer.proofs.RowLaws.{find-tells}
+use Rattle.byte_machine.proofs.RowLaws.{find-tells}
 use Rattle.deserializer.proofs.Runs.{run-header, then}
 use Rattle.deserializer.proofs.Sound.{clash, never}
 

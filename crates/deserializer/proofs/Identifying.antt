@@ -14,11 +14,12 @@ use Rattle.chunk_header.specs.Layout.{Form, one, two, three, basicBytes}
 use Rattle.chunk_header.specs.Table.{formatOf, typeOf}
 use Rattle.chunk_header.proofs.Basic.{csid-one, csid-one-short, csid-small, csid-zero, csid-zero-short}
 use Rattle.deserializer.specs.declared.ChunkDeserializer.{ChunkDeserializer}
-use Rattle.deserializer.specs.declared.reader.Reader.{Reader}
-use Rattle.deserializer.specs.declared.reader.Stage.the-variants.{Csid, CsidSecond, CsidThird}
+use Rattle.byte_machine.specs.declared.reader.Reader.{Reader}
+use Rattle.byte_machine.specs.declared.reader.Stage.the-variants.{Csid, CsidSecond, CsidThird}
 use Rattle.deserializer.specs.Call.{after, run}
 use Rattle.deserializer.specs.Chunk.{FormFits}
-use Rattle.deserializer.specs.Machine.{at, basic, named}
+use Rattle.byte_machine.specs.Step.{basic, named}
+use Rattle.byte_machine.specs.Reader.{at}
 use Rattle.deserializer.proofs.Fields.{Reaches}
 use Rattle.deserializer.proofs.Runs.{holding, run-header}
 

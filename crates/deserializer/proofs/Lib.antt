@@ -7,16 +7,13 @@ pub mod Fitting
 pub mod FurtherOn
 pub mod Heading
 pub mod Identifying
-pub mod Naming
 pub mod PieceWithin
 pub mod Progress
 pub mod Reached
 pub mod Reading
 pub mod ReadsBack
-pub mod RowLaws
 pub mod Runs
 pub mod Sound
-pub mod Table
 pub mod Turning
 pub mod Unique
 pub mod Written

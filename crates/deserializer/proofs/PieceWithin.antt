@@ -8,10 +8,10 @@ use lib.Seq.{sets}
 use Rattle.fields.specs.Output.{stored}
 use Rattle.fields.proofs.Lists.{stored-fits}
 use Rattle.deserializer.specs.declared.ChunkDeserializer.{ChunkDeserializer}
-use Rattle.deserializer.specs.declared.reader.Stepped.{Stepped}
+use Rattle.byte_machine.specs.declared.reader.Stepped.{Stepped}
 use Rattle.deserializer.specs.Answer.{more}
 use Rattle.deserializer.specs.Call.{after, next, outcome, run}
-use Rattle.deserializer.specs.Machine.{landed}
+use Rattle.byte_machine.specs.Payload.{landed}
 use Rattle.deserializer.specs.Within.{Lies, nearer}
 use Rattle.deserializer.proofs.Runs.{bulk, landed-short, next-runs, then}
 

@@ -10,12 +10,14 @@ use lib.ListN.{length, length-replicate, getD-replicate}
 use borrow.Author.Tests.{eqb-false}
 use Rattle.fields.specs.Cases.{_when_, first}
 use Rattle.deserializer.specs.declared.ChunkDeserializer.{ChunkDeserializer}
-use Rattle.deserializer.specs.declared.reader.Event.{Event}
-use Rattle.deserializer.specs.declared.reader.Event.the-variants.{Go, Chunk, Message, Refuse}
-use Rattle.deserializer.specs.declared.reader.Reader.{Reader}
-use Rattle.deserializer.specs.Machine.{lacks, reader}
+use Rattle.byte_machine.specs.declared.reader.Event.{Event}
+use Rattle.byte_machine.specs.declared.reader.Event.the-variants.{Go, Chunk, Message, Refuse}
+use Rattle.byte_machine.specs.declared.reader.Reader.{Reader}
+use Rattle.byte_machine.specs.Header.{lacks}
+use Rattle.byte_machine.specs.Reader.{reader}
 use Rattle.deserializer.specs.Answer.{refused}
-use Rattle.deserializer.specs.Call.{Outcome, after, closes, end, isRefusal, next, outcome, putAt, run, stepOf, writes}
+use Rattle.deserializer.specs.Call.{Outcome, after, closes, end, isRefusal, next, outcome, run, stepOf, writes}
+use Rattle.byte_machine.specs.Rows.{putAt}
 use Rattle.deserializer.specs.Told.{between, fresh, made, maxRoom, outcome as told-outcome, refused as no-size, sized, taken, told}
 use Rattle.chunk_header.specs.Limits.{maxSize}
 use Rattle.deserializer.proofs.Sound.{Sound, never, step-sound}

@@ -12,15 +12,17 @@ use Rattle.fields.proofs.Endian.{bytes-big, bytes-little, length-big, length-li
 use Rattle.chunk_header.specs.Layout.{Header, type0, type1, type2, type3, headerBytes, Extended, absent, present, extendedBytes}
 use Rattle.chunk_header.specs.Table.{fieldLength}
 use Rattle.deserializer.specs.declared.ChunkDeserializer.{ChunkDeserializer}
-use Rattle.deserializer.specs.declared.reader.Reader.{Reader}
-use Rattle.deserializer.specs.declared.reader.Stage.{Stage}
-use Rattle.deserializer.specs.declared.reader.Stage.the-variants.{InitialTimestamp, MessageLength, MessageTypeId, MessageStreamId, ExtendedTimestamp}
-use Rattle.deserializer.specs.declared.reader.Stepped.{Stepped}
-use Rattle.deserializer.specs.declared.reader.Unfinished.{Unfinished}
+use Rattle.byte_machine.specs.declared.reader.Reader.{Reader}
+use Rattle.byte_machine.specs.declared.reader.Stage.{Stage}
+use Rattle.byte_machine.specs.declared.reader.Stage.the-variants.{InitialTimestamp, MessageLength, MessageTypeId, MessageStreamId, ExtendedTimestamp}
+use Rattle.byte_machine.specs.declared.reader.Stepped.{Stepped}
+use Rattle.byte_machine.specs.declared.reader.Unfinished.{Unfinished}
 use Rattle.chunk_meaning.specs.declared.Row.{Row}
 use Rattle.deserializer.specs.Call.{Outcome, after, run}
 use Rattle.deserializer.specs.Chunk.{ExtendedFits, HeaderFits, carried, formatFor, says}
-use Rattle.deserializer.specs.Machine.{at, current, extendedField, extendedNext, headed, lengthField, lengthNext, reader, streamField, streamNext, swapped, timestampField, timestampNext, typeField, typeNext, whole}
+use Rattle.byte_machine.specs.Step.{extendedField, lengthField, streamField, swapped, timestampField, typeField}
+use Rattle.byte_machine.specs.Header.{extendedNext, lengthNext, streamNext, timestampNext, typeNext, whole}
+use Rattle.byte_machine.specs.Reader.{at, current, headed, reader}
 use Rattle.chunk_meaning.specs.Stored.{fielded, lengthed, streamed, typed}
 use Rattle.chunk_header.specs.Limits.{maxField}
 use Rattle.deserializer.proofs.Fields.{Reaches, field}

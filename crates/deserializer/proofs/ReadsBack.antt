@@ -14,20 +14,23 @@ use Rattle.chunk_header.specs.declared.ChunkHeaderFormat.the-variants.{Full}
 use Rattle.chunk_header.specs.Layout.{Chunk, Header, type0, type1, type2, type3, basicBytes, headerBytes, extendedBytes, chunkBytes, format}
 use Rattle.chunk_header.specs.Table.{fieldLength, typeOf}
 use Rattle.deserializer.specs.declared.ChunkDeserializer.{ChunkDeserializer}
-use Rattle.deserializer.specs.declared.reader.Event.the-variants.{Chunk as ChunkEnds, Message}
-use Rattle.deserializer.specs.declared.reader.Reader.{Reader}
-use Rattle.deserializer.specs.declared.reader.Stage.{Stage}
-use Rattle.deserializer.specs.declared.reader.Stage.the-variants.{Csid, MessagePayload}
-use Rattle.deserializer.specs.declared.reader.Stepped.{Stepped}
+use Rattle.byte_machine.specs.declared.reader.Event.the-variants.{Chunk as ChunkEnds, Message}
+use Rattle.byte_machine.specs.declared.reader.Reader.{Reader}
+use Rattle.byte_machine.specs.declared.reader.Stage.{Stage}
+use Rattle.byte_machine.specs.declared.reader.Stage.the-variants.{Csid, MessagePayload}
+use Rattle.byte_machine.specs.declared.reader.Stepped.{Stepped}
 use Rattle.deserializer.specs.Call.{after, isRefusal, run}
 use Rattle.deserializer.specs.Chunk.{ChunkFits, FormFits, HeadFits, basicRefused, formatFor, got, header, headerRefused, inside, left, placeOf, row, says, stored}
-use Rattle.deserializer.specs.Machine.{at, current, ended, go, landed, named, opens, reader, refuse, timestampNext, unfinished, whole}
+use Rattle.byte_machine.specs.Payload.{landed}
+use Rattle.byte_machine.specs.Step.{named}
+use Rattle.byte_machine.specs.Header.{opens, timestampNext, whole}
+use Rattle.byte_machine.specs.Reader.{at, current, ended, go, reader, refuse, unfinished}
 use Rattle.chunk_meaning.specs.Meaning.{basicRefusal, firstRefusal, laterRefusal}
 use Rattle.chunk_meaning.specs.Stored.{claimed}
-use Rattle.deserializer.specs.Rows.{find, free, putRow}
+use Rattle.byte_machine.specs.Rows.{find, free, putRow}
 use Rattle.deserializer.proofs.Fields.{Reaches}
 use Rattle.deserializer.proofs.Identifying.{basic-read}
-use Rattle.deserializer.proofs.Naming.{named-refused}
+use Rattle.byte_machine.proofs.Naming.{named-refused}
 use Rattle.deserializer.proofs.Reading.{extended-read, header-read}
 use Rattle.deserializer.proofs.Runs.{bulk, held-forgotten, holding, then}
 

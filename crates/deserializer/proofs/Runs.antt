@@ -12,11 +12,13 @@ use lib.ListN.{length, take, drop, getD, set, length-take, length-drop, take-app
 use lib.Seq.{sets, drop-drop, drop-cons}
 use borrow.Author.Tests.{eq-eqb, ne-eqb, eqb-false, le-leb, leb-true, lt-ltb, le-ltb}
 use Rattle.deserializer.specs.declared.ChunkDeserializer.{ChunkDeserializer}
-use Rattle.deserializer.specs.declared.reader.Reader.{Reader}
-use Rattle.deserializer.specs.declared.reader.Stepped.{Stepped}
+use Rattle.byte_machine.specs.declared.reader.Reader.{Reader}
+use Rattle.byte_machine.specs.declared.reader.Stepped.{Stepped}
 use Rattle.deserializer.specs.Answer.{more, refused}
 use Rattle.deserializer.specs.Call.{Outcome, outcome, isRefusal, stepOf, writes, after, run, next}
-use Rattle.deserializer.specs.Machine.{inPayload, ended, go, paid, paused, pays, landed, refuse, stepped}
+use Rattle.byte_machine.specs.Payload.{paid, pays, landed}
+use Rattle.byte_machine.specs.Step.{stepped}
+use Rattle.byte_machine.specs.Reader.{inPayload, ended, go, paused, refuse}
 use Rattle.deserializer.specs.Turn.{follows}
 
 -- what follows a step of a decoder

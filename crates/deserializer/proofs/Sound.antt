@@ -15,19 +15,24 @@ use Rattle.chunk_header.specs.declared.Csid.the-variants.{Id, Incomplete}
 use Rattle.chunk_header.specs.Basic.{afterOne, afterZero, csid}
 use Rattle.chunk_header.specs.Table.{formatOf, isEmpty, isFull}
 use Rattle.deserializer.specs.declared.ChunkDeserializer.{ChunkDeserializer}
-use Rattle.deserializer.specs.declared.reader.Reader.{Reader}
-use Rattle.deserializer.specs.declared.reader.Stage.{Stage}
-use Rattle.deserializer.specs.declared.reader.Stage.the-variants.{Csid as AtCsid, CsidSecond, CsidThird, InitialTimestamp, MessageLength, MessageTypeId, MessageStreamId, ExtendedTimestamp, MessagePayload}
-use Rattle.deserializer.specs.declared.reader.Stepped.{Stepped}
+use Rattle.chunk_header.specs.declared.HeaderField.{HeaderField}
+use Rattle.byte_machine.specs.declared.reader.Reader.{Reader}
+use Rattle.byte_machine.specs.declared.reader.Stage.{Stage}
+use Rattle.byte_machine.specs.declared.reader.Stage.the-variants.{Csid as AtCsid, CsidSecond, CsidThird, InitialTimestamp, MessageLength, MessageTypeId, MessageStreamId, ExtendedTimestamp, MessagePayload}
+use Rattle.byte_machine.specs.declared.reader.Stepped.{Stepped}
 use Rattle.chunk_meaning.specs.declared.Row.{Row}
-use Rattle.deserializer.specs.Machine.{at, basic, basicBy, claims, current, ended, extendedField, extendedNext, gathered, go, headed, inPayload, known, lacks, landed, lengthField, lengthNext, named, opens, paid, paused, pays, reader, refuse, stepped, streamField, streamNext, swapped, timestampField, timestampNext, typeField, typeNext, whole}
+use Rattle.byte_machine.specs.Payload.{landed, paid, pays}
+use Rattle.byte_machine.specs.Step.{basic, basicBy, claims, extendedField, gathered, known, lengthField, named, stepped, streamField, swapped, timestampField, typeField}
+use Rattle.byte_machine.specs.Header.{stageOf, extendedNext, lacks, lengthNext, opens, streamNext, timestampNext, typeNext, whole}
+use Rattle.byte_machine.specs.Reader.{at, current, ended, go, headed, inPayload, paused, reader, refuse}
 use Rattle.chunk_meaning.specs.Meaning.{basicRefusal, firstRefusal, firstTime, laterRefusal}
 use Rattle.chunk_header.specs.Limits.{maxField}
 use Rattle.chunk_meaning.specs.Stored.{claimed, fielded, lengthed, streamed, timed, typed}
-use Rattle.deserializer.specs.Rows.{find, free, putRow, rowAt}
+use Rattle.byte_machine.specs.Rows.{find, free, putRow, rowAt, putAt}
 use Rattle.deserializer.specs.Answer.{refused}
-use Rattle.deserializer.specs.Call.{putAt, stepOf}
-use Rattle.deserializer.proofs.RowLaws.{Distinct, alone-none, alone-there, distinct-put, find-none, find-tells, id-other, id-put, length-putRow}
+use Rattle.deserializer.specs.Call.{stepOf}
+use Rattle.byte_machine.proofs.Passing.{at-stream, at-type, at-length, at-timestamp}
+use Rattle.byte_machine.proofs.RowLaws.{Distinct, alone-none, alone-there, distinct-put, find-none, find-tells, id-other, id-put, length-putRow}
 
 -- a test that tells both ways
 pub clash : {A : Type 0} {t : Bool} → t ≡ false → t ≡ true → A
@@ -170,21 +175,22 @@ module _ (rows : List ℕ) where
       either rows _ _ (eqb (r .chunk .header .«timestamp_field») maxField) (go-stays (at r (ExtendedTimestamp 0 4)) h)
       (whole-stays room size r (r .chunk .header .«timestamp_field») h)
 
+  -- the next field
+  stops-stay : (r : Reader) → HasRow rows (r .message .id) → (field : HeaderField) → eqb (lacks r field) 0 ≡ false
+      → StaysAt rows r (go (at r (stageOf field (lacks r field))))
+  stops-stay r h field e = go-stays (at r (stageOf field (lacks r field))) h
+
   stream-stays : (room size : ℕ) (r : Reader) → HasRow rows (r .message .id) → StaysAt rows r (streamNext room size r)
-  unfolding streamNext
-  stream-stays room size r h = either rows _ _ (eqb (lacks r 3) 0) (extended-stays room size r h) (go-stays (at r (MessageStreamId 0 (lacks r 3))) h)
+  stream-stays room size r h = at-stream (StaysAt rows r) room size r (stops-stay r h) (extended-stays room size r h)
 
   type-stays : (room size : ℕ) (r : Reader) → HasRow rows (r .message .id) → StaysAt rows r (typeNext room size r)
-  unfolding typeNext
-  type-stays room size r h = either rows _ _ (eqb (lacks r 2) 0) (stream-stays room size r h) (go-stays (at r MessageTypeId) h)
+  type-stays room size r h = at-type (StaysAt rows r) room size r (stops-stay r h) (extended-stays room size r h)
 
   length-stays : (room size : ℕ) (r : Reader) → HasRow rows (r .message .id) → StaysAt rows r (lengthNext room size r)
-  unfolding lengthNext
-  length-stays room size r h = either rows _ _ (eqb (lacks r 1) 0) (type-stays room size r h) (go-stays (at r (MessageLength 0 (lacks r 1))) h)
+  length-stays room size r h = at-length (StaysAt rows r) room size r (stops-stay r h) (extended-stays room size r h)
 
   timestamp-stays : (room size : ℕ) (r : Reader) → HasRow rows (r .message .id) → StaysAt rows r (timestampNext room size r)
-  unfolding timestampNext
-  timestamp-stays room size r h = either rows _ _ (eqb (lacks r 0) 0) (length-stays room size r h) (go-stays (at r (InitialTimestamp 0 (lacks r 0))) h)
+  timestamp-stays room size r h = at-timestamp (StaysAt rows r) room size r (stops-stay r h) (extended-stays room size r h)
 
   -- a byte of a header, past its basic header
   field-stays : (stage : Stage) (room size : ℕ) (r : Reader) (b : ℕ) → past stage ≡ true → HasRow rows (r .message .id)

@@ -10,9 +10,9 @@ use Rattle.fields.specs.Output.{stored}
 use Rattle.fields.proofs.Lists.{stored-fits}
 use Rattle.deserializer.specs.declared.call.Core.{Core}
 use Rattle.deserializer.specs.declared.call.Moved.{Moved}
-use Rattle.deserializer.specs.declared.reader.Stepped.{Stepped}
+use Rattle.byte_machine.specs.declared.reader.Stepped.{Stepped}
 use Rattle.deserializer.specs.Call.{run}
-use Rattle.deserializer.specs.Machine.{landed}
+use Rattle.byte_machine.specs.Payload.{landed}
 use Rattle.deserializer.specs.Turn.{Keeps, Pays, Turned, whole}
 use Rattle.deserializer.proofs.Runs.{then, bulk-at}
 

@@ -9,11 +9,12 @@ use lib.ListN.{length, getD, set}
 use lib.Seq.{getD-set-same, getD-set-other}
 use borrow.Author.Tests.{eqb-true, eqb-false, ltb-true, ltb-false}
 use Rattle.deserializer.specs.declared.ChunkDeserializer.{ChunkDeserializer}
-use Rattle.deserializer.specs.declared.reader.Event.{Event}
-use Rattle.deserializer.specs.declared.reader.Event.the-variants.{Go, Chunk, Message, Refuse}
+use Rattle.byte_machine.specs.declared.reader.Event.{Event}
+use Rattle.byte_machine.specs.declared.reader.Event.the-variants.{Go, Chunk, Message, Refuse}
 use Rattle.deserializer.specs.Answer.{used}
 use Rattle.deserializer.specs.Call.{Outcome, after, end, next, run, stepOf, writes}
-use Rattle.deserializer.specs.Machine.{inPayload, pays}
+use Rattle.byte_machine.specs.Payload.{pays}
+use Rattle.byte_machine.specs.Reader.{inPayload}
 use Rattle.deserializer.proofs.Cut.{long-writes}
 use Rattle.deserializer.proofs.Progress.{run-uses}
 use Rattle.deserializer.proofs.Runs.{next-closed, next-runs, next-short, pays-tells}

@@ -6,14 +6,16 @@ use lib.Dec.{ltb, eqb}
 use lib.ListN.{length, set}
 use Rattle.fields.specs.Cases.{_when_, first}
 use Rattle.deserializer.specs.declared.ChunkDeserializer.{ChunkDeserializer}
-use Rattle.deserializer.specs.declared.reader.Event.{Event}
-use Rattle.deserializer.specs.declared.reader.Event.the-variants.{Go, Chunk, Message, Refuse}
-use Rattle.deserializer.specs.declared.reader.Reader.{Reader}
-use Rattle.deserializer.specs.declared.reader.Stepped.{Stepped}
+use Rattle.byte_machine.specs.declared.reader.Event.{Event}
+use Rattle.byte_machine.specs.declared.reader.Event.the-variants.{Go, Chunk, Message, Refuse}
+use Rattle.byte_machine.specs.declared.reader.Reader.{Reader}
+use Rattle.byte_machine.specs.declared.reader.Stepped.{Stepped}
 use Rattle.chunk_meaning.specs.declared.Row.{Row}
 use Rattle.deserializer.specs.Answer.{Listed, message, more, refused}
-use Rattle.deserializer.specs.Machine.{inPayload, landed, pays, refuse, stepped}
-use Rattle.deserializer.specs.Rows.{putRow}
+use Rattle.byte_machine.specs.Payload.{landed, pays}
+use Rattle.byte_machine.specs.Step.{stepped}
+use Rattle.byte_machine.specs.Reader.{inPayload, refuse}
+use Rattle.byte_machine.specs.Rows.{putRow}
 
 -- what a byte does: a byte of a payload that may come is stored at its own place
 unfoldable pub stepOf : ChunkDeserializer → ℕ → Stepped

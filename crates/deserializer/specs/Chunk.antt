@@ -14,7 +14,7 @@ use Rattle.chunk_meaning.specs.declared.Row.{Row}
 use Rattle.chunk_meaning.specs.Meaning.{basicRefusal, firstRefusal, firstTime, laterRefusal}
 use Rattle.chunk_header.specs.Limits.{maxField}
 use Rattle.chunk_meaning.specs.Stored.{claimed, fielded, lengthed, streamed, timed, typed}
-use Rattle.deserializer.specs.Rows.{find, free, rowAt}
+use Rattle.byte_machine.specs.Rows.{find, free, rowAt}
 
 abbrev pub formatFor : Header → ChunkHeaderFormat
 formatFor (type0 time length type stream) = Full

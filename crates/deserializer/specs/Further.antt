@@ -10,13 +10,13 @@ use Rattle.chunk_header.specs.declared.ChunkHeaderFormat.the-variants.{Empty}
 use Rattle.deserializer.specs.declared.ChunkDeserializer.{ChunkDeserializer}
 use Rattle.deserializer.specs.declared.call.Core.{Core}
 use Rattle.deserializer.specs.declared.call.Moved.{Moved}
-use Rattle.deserializer.specs.declared.reader.Event.the-variants.{Chunk}
-use Rattle.deserializer.specs.declared.reader.Stage.the-variants.{Csid}
+use Rattle.byte_machine.specs.declared.reader.Event.the-variants.{Chunk}
+use Rattle.byte_machine.specs.declared.reader.Stage.the-variants.{Csid}
 use Rattle.chunk_meaning.specs.declared.Row.{Row}
 use Rattle.deserializer.specs.Call.{run}
-use Rattle.deserializer.specs.Machine.{current, reader, unfinished}
+use Rattle.byte_machine.specs.Reader.{current, reader, unfinished}
 use Rattle.chunk_header.specs.Limits.{maxField}
-use Rattle.deserializer.specs.Rows.{find, putRow, rowAt}
+use Rattle.byte_machine.specs.Rows.{find, putRow, rowAt}
 use Rattle.deserializer.specs.Turn.{follows, whole}
 
 -- a decoder between two chunks of a message of type 3 chunks without extended time, whose row is at a place

@@ -13,16 +13,18 @@ use Rattle.chunk_header.specs.Table.{formatOf, headerLength, typeOf}
 use Rattle.deserializer.specs.declared.ChunkDeserializer.{ChunkDeserializer}
 use Rattle.deserializer.specs.declared.call.Core.{Core}
 use Rattle.deserializer.specs.declared.head.Taken.{Taken}
-use Rattle.deserializer.specs.declared.reader.Reader.{Reader}
-use Rattle.deserializer.specs.declared.reader.Stage.the-variants.{Csid}
-use Rattle.deserializer.specs.declared.reader.Stepped.{Stepped}
-use Rattle.deserializer.specs.declared.reader.Unfinished.{Unfinished}
+use Rattle.byte_machine.specs.declared.reader.Reader.{Reader}
+use Rattle.byte_machine.specs.declared.reader.Stage.the-variants.{Csid}
+use Rattle.byte_machine.specs.declared.reader.Stepped.{Stepped}
+use Rattle.byte_machine.specs.declared.reader.Unfinished.{Unfinished}
 use Rattle.chunk_meaning.specs.declared.Row.{Row}
 use Rattle.deserializer.specs.Call.{after, run}
-use Rattle.deserializer.specs.Machine.{current, opens, reader, swapped}
+use Rattle.byte_machine.specs.Step.{swapped}
+use Rattle.byte_machine.specs.Header.{opens}
+use Rattle.byte_machine.specs.Reader.{current, reader}
 use Rattle.chunk_meaning.specs.Meaning.{firstRefusal, firstTime, laterRefusal}
 use Rattle.chunk_meaning.specs.Stored.{timed}
-use Rattle.deserializer.specs.Rows.{find}
+use Rattle.byte_machine.specs.Rows.{find}
 use Rattle.deserializer.specs.Turn.{follows}
 
 -- the header after a basic header of one byte

@@ -3,8 +3,6 @@ pub mod Call
 pub mod Chunk
 pub mod Further
 pub mod Head
-pub mod Machine
-pub mod Rows
 pub mod Told
 pub mod Turn
 pub mod Within

@@ -11,10 +11,10 @@ use Rattle.deserializer.specs.declared.ChunkDeserializer.{ChunkDeseriali
 use Rattle.deserializer.specs.declared.Telling.{Telling}
 use Rattle.deserializer.specs.declared.Telling.the-variants.{Taken, Refused}
 use Rattle.deserializer.specs.declared.Told.{Told}
-use Rattle.deserializer.specs.declared.reader.Reader.{Reader}
-use Rattle.deserializer.specs.declared.reader.Stage.{Stage}
-use Rattle.deserializer.specs.declared.reader.Stage.the-variants.{Csid, CsidSecond, CsidThird, InitialTimestamp, MessageLength, MessageTypeId, MessageStreamId, ExtendedTimestamp, MessagePayload}
-use Rattle.deserializer.specs.Machine.{current, reader, unfinished}
+use Rattle.byte_machine.specs.declared.reader.Reader.{Reader}
+use Rattle.byte_machine.specs.declared.reader.Stage.{Stage}
+use Rattle.byte_machine.specs.declared.reader.Stage.the-variants.{Csid, CsidSecond, CsidThird, InitialTimestamp, MessageLength, MessageTypeId, MessageStreamId, ExtendedTimestamp, MessagePayload}
+use Rattle.byte_machine.specs.Reader.{current, reader, unfinished}
 use Rattle.chunk_meaning.specs.Stored.{claimed}
 
 -- each answer's number, as document 01 lists it

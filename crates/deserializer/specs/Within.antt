@@ -3,7 +3,8 @@ use Prim.Native.Nat.{ℕ, _+_, _-_, _≤_, _<_}
 use mathlib.Core.Bool.{Bool, true}
 use mathlib.Core.Path.{_≡_}
 use Rattle.deserializer.specs.declared.ChunkDeserializer.{ChunkDeserializer}
-use Rattle.deserializer.specs.Machine.{inPayload, paid}
+use Rattle.byte_machine.specs.Payload.{paid}
+use Rattle.byte_machine.specs.Reader.{inPayload}
 
 -- an open decoder in a payload, a piece of so many bytes that ends before the chunk does, and a buffer of so many
 pub record Lies (d : ChunkDeserializer) (length lent : ℕ) : Type 0 where

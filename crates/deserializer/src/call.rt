@@ -2,22 +2,23 @@
 ghost use mathlib.Core.Path.{_≡_};
 ghost use Prim.Native.Nat.{_≤_, _<_, min};
 ghost use lib.ListN.{length};
-ghost use Rattle.deserializer.specs.Call.{closes as Call·closes, isRefusal, putAt};
+ghost use Rattle.deserializer.specs.Call.{closes as Call·closes, isRefusal};
+ghost use Rattle.byte_machine.specs.Rows.{putAt};
 ghost use Rattle.deserializer.specs.Turn.{Keeps, Pays, Turned, changed as Turn·changed};
 use crate::further::further;
 use crate::head::head;
-use crate::head::is_midway;
-use crate::numbers::wide;
-use crate::parts::refuse;
-use crate::payload::in_payload;
 use crate::payload::landed;
-use crate::payload::pays;
-use crate::reader::Event;
-use crate::reader::Reader;
-use crate::reader::Stepped;
-use crate::rows::ROWS;
-use crate::rows::put_row;
-use crate::step::step;
+use byte_machine::Event;
+use byte_machine::ROWS;
+use byte_machine::Reader;
+use byte_machine::Stepped;
+use byte_machine::in_payload;
+use byte_machine::is_midway;
+use byte_machine::pays;
+use byte_machine::put_at;
+use byte_machine::refuse;
+use byte_machine::step;
+use byte_machine::wide;
 use chunk_meaning::Row;
 use fields::put_bytes;
 use time::RtmpTimestamp;
@@ -54,14 +55,6 @@ pub struct Moved {
     pub core: Core,
     pub event: Event,
     pub at: usize,
-}
-
-fn put_at(rows: &mut [u32; 384], place: usize, row: Row)
-    ensures { λ _. ⌜ now (rows .exit) ≡ putAt (now (rows .entry)) place row ⌝ }
-{
-    if place < ROWS {
-        put_row(rows, place, row);
-    }
 }
 
 fn closes(event: Event, closed: u8) -> u8

@@ -8,9 +8,9 @@ ghost use Rattle.deserializer.specs.Turn.{whole};
 use crate::call::Answer;
 use crate::call::Core;
 use crate::call::turn;
-use crate::numbers::wide;
-use crate::reader::Event;
-use crate::reader::Reader;
+use byte_machine::Event;
+use byte_machine::Reader;
+use byte_machine::wide;
 
 pub struct Fed {
     pub core: Core,

@@ -7,18 +7,18 @@ ghost use Rattle.deserializer.specs.Further.{Begins, Chunks, Further, Fu
 ghost use Rattle.deserializer.specs.Turn.{whole};
 use crate::call::Core;
 use crate::call::Moved;
-use crate::head::is_midway;
-use crate::numbers::lacking;
-use crate::numbers::least;
-use crate::numbers::wide;
-use crate::reader::Current;
-use crate::reader::Event;
-use crate::reader::Reader;
-use crate::reader::Stage;
-use crate::reader::Unfinished;
-use crate::rows::ROWS;
-use crate::rows::find;
-use crate::rows::row_at;
+use byte_machine::Current;
+use byte_machine::Event;
+use byte_machine::ROWS;
+use byte_machine::Reader;
+use byte_machine::Stage;
+use byte_machine::Unfinished;
+use byte_machine::find;
+use byte_machine::is_midway;
+use byte_machine::lacking;
+use byte_machine::least;
+use byte_machine::row_or_empty;
+use byte_machine::wide;
 use chunk_header::ChunkHeaderFormat;
 use chunk_header::MAX_INITIAL_TIMESTAMP;
 use chunk_meaning::Row;
@@ -168,7 +168,7 @@ fn after_chunk(core: Core, rows: &[u32; 384], input: &[u8], at: usize, payload: 
     if has_wide_type(rows, place) {
         return stay(core, at);
     }
-    let row = row_at(rows, place);
+    let row = row_or_empty(rows, place);
     if row.timestamp_field == MAX_INITIAL_TIMESTAMP {
         return stay(core, at);
     }

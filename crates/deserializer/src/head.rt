@@ -7,21 +7,21 @@ ghost use Rattle.fields.specs.Endian.{number};
 ghost use Rattle.chunk_header.specs.Table.{headerLength, typeOf};
 ghost use Rattle.deserializer.specs.Chunk.{carried as Chunk·carried};
 ghost use Rattle.deserializer.specs.Head.{Heads, Known, headerIn, refusalOf, settledBy};
-ghost use Rattle.deserializer.specs.Machine.{current, inPayload, reader as Machine·reader, swapped};
-ghost use Rattle.deserializer.specs.declared.reader.Stage.the-variants.{Csid};
-ghost use Rattle.deserializer.specs.Told.{atStart};
+ghost use Rattle.byte_machine.specs.Step.{swapped};
+ghost use Rattle.byte_machine.specs.Reader.{current, inPayload, reader as Machine·reader, atStart};
+ghost use Rattle.byte_machine.specs.declared.reader.Stage.the-variants.{Csid};
 ghost use Rattle.deserializer.specs.Turn.{whole};
 use crate::call::Core;
-use crate::header::opens;
-use crate::reader::Current;
-use crate::reader::Reader;
-use crate::reader::Stage;
-use crate::reader::Stepped;
-use crate::reader::Unfinished;
-use crate::rows::ROWS;
-use crate::rows::find;
-use crate::rows::row_at;
-use crate::step::step;
+use byte_machine::Current;
+use byte_machine::ROWS;
+use byte_machine::Reader;
+use byte_machine::Stage;
+use byte_machine::Stepped;
+use byte_machine::Unfinished;
+use byte_machine::find;
+use byte_machine::opens;
+use byte_machine::row_or_empty;
+use byte_machine::step;
 use chunk_header::ChunkHeaderFormat;
 use chunk_header::MAX_INITIAL_TIMESTAMP;
 use chunk_header::get_format;
@@ -43,23 +43,6 @@ use fields::swap_bytes;
 pub struct Taken {
     pub stepped: Stepped,
     pub length: usize,
-}
-
-// Whether the next byte is not the first of a chunk.
-pub fn is_midway(stage: Stage) -> bool
-    ensures { λ r. ⌜ r ≡ not (atStart stage) ⌝ }
-{
-    match stage {
-        Stage::Csid => false,
-        Stage::CsidSecond(_) => true,
-        Stage::CsidThird(_, _) => true,
-        Stage::InitialTimestamp(_, _) => true,
-        Stage::MessageLength(_, _) => true,
-        Stage::MessageTypeId => true,
-        Stage::MessageStreamId(_, _) => true,
-        Stage::ExtendedTimestamp(_, _) => true,
-        Stage::MessagePayload => true,
-    }
 }
 
 // The fields of a header after a basic header of one byte.
@@ -185,7 +168,7 @@ fn by_row(
     ensures { λ r. ⌜ Heads (whole core (now (rows .entry))) (now (input .entry)) r ⌝ }
 {
     let id = core.reader.message.id;
-    let row = row_at(rows, place);
+    let row = row_or_empty(rows, place);
     let header = carried(format, row, input);
     if header.timestamp_field == MAX_INITIAL_TIMESTAMP {
         return by_byte(core, rows, input);

@@ -4,36 +4,28 @@ ghost use Rattle.deserializer.specs.Answer.{answerOf};
 ghost use Rattle.deserializer.specs.Call.{next, outcome};
 ghost use Rattle.deserializer.specs.Told.{between as Told·between, fresh as Told·fresh, made, outcomeOf, told, unsized};
 
-mod basic;
 mod call;
 mod feed;
 mod further;
 mod head;
-mod header;
-mod numbers;
-mod parts;
 mod payload;
-mod reader;
-mod rows;
-mod step;
 mod within;
 
 pub use crate::call::Answer;
 use crate::call::Core;
 use crate::feed::feed;
-use crate::head::is_midway;
-use crate::reader::Current;
-use crate::reader::Reader;
-use crate::reader::Stage;
-use crate::reader::Unfinished;
-use crate::rows::ROWS;
 use crate::within::lies_within;
 use crate::within::take_within;
+use byte_machine::Current;
+use byte_machine::ROWS;
+use byte_machine::Reader;
+use byte_machine::Stage;
+use byte_machine::Unfinished;
+use byte_machine::is_midway;
 use chunk_header::ChunkHeaderFormat;
 use chunk_header::INITIAL_MAX_CHUNK_SIZE;
 use chunk_header::LARGEST_CHUNK_SIZE;
-use chunk_meaning::Row;
-use time::RtmpTimestamp;
+use chunk_meaning::claimed;
 
 // No message is longer.
 const LARGEST_ROOM: u32 = 16777215;
@@ -69,14 +61,7 @@ pub struct Told {
 fn fresh(room: u32, closed: u8) -> ChunkDeserializer
     ensures { λ r. ⌜ r ≡ Told·fresh room closed ⌝ }
 {
-    let row = Row {
-        id: 0,
-        timestamp: RtmpTimestamp { value: 0 },
-        timestamp_field: 0,
-        message_length: 0,
-        message_type_id: 0,
-        message_stream_id: 0,
-    };
+    let row = claimed(0);
     ChunkDeserializer {
         room: room,
         max_chunk_size: INITIAL_MAX_CHUNK_SIZE,

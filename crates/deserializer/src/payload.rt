@@ -1,44 +1,14 @@
 // The payload of a chunk, copied by stretches.
 ghost use mathlib.Core.Path.{_≡_};
 ghost use Prim.Native.Nat.{_+_, _≤_, _<_};
-ghost use Rattle.deserializer.specs.Machine.{inPayload, landed as Machine·landed, pays as Machine·pays};
-use crate::parts::ended;
-use crate::parts::go;
-use crate::parts::paused;
-use crate::reader::Reader;
-use crate::reader::Stage;
-use crate::reader::Stepped;
-
-// Whether the next byte is one of a payload.
-pub fn in_payload(stage: Stage) -> bool
-    ensures { λ r. ⌜ r ≡ inPayload stage ⌝ }
-{
-    match stage {
-        Stage::Csid => false,
-        Stage::CsidSecond(_) => false,
-        Stage::CsidThird(_, _) => false,
-        Stage::InitialTimestamp(_, _) => false,
-        Stage::MessageLength(_, _) => false,
-        Stage::MessageTypeId => false,
-        Stage::MessageStreamId(_, _) => false,
-        Stage::ExtendedTimestamp(_, _) => false,
-        Stage::MessagePayload => true,
-    }
-}
-
-// Whether the chunk lacks a byte, and ends within the room.
-pub fn pays(room: u32, reader: Reader) -> bool
-    ensures { λ r. ⌜ r ≡ Machine·pays room reader ⌝ }
-{
-    let left = reader.chunk.left;
-    if left == 0 {
-        return false;
-    }
-    if room < left {
-        return false;
-    }
-    reader.message.got <= room - left
-}
+ghost use Rattle.byte_machine.specs.Payload.{landed as Machine·landed, pays as Machine·pays};
+ghost use Rattle.byte_machine.specs.Reader.{inPayload};
+use byte_machine::Reader;
+use byte_machine::Stage;
+use byte_machine::Stepped;
+use byte_machine::ended;
+use byte_machine::go;
+use byte_machine::paused;
 
 // After n bytes of payload.
 pub fn landed(reader: Reader, n: u32) -> Stepped

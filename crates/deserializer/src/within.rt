@@ -5,9 +5,9 @@ ghost use Rattle.deserializer.specs.Answer.{more};
 ghost use Rattle.deserializer.specs.Call.{next, outcome};
 ghost use Rattle.deserializer.specs.Within.{Lies, Within};
 use crate::ChunkDeserializer;
-use crate::numbers::wide;
-use crate::payload::in_payload;
-use crate::payload::pays;
+use byte_machine::in_payload;
+use byte_machine::pays;
+use byte_machine::wide;
 use fields::put_bytes;
 
 // Whether a piece of so many bytes is one; `lent` is what the buffer has.

@@ -12,11 +12,12 @@ use borrow.Author.Tests.{eqb-false, eqb-true, ltb-false, ltb-true}
 use Rattle.fields.specs.Endian.{Bytes}
 use Rattle.chunk_header.specs.Layout.{Chunk}
 use Rattle.deserializer.specs.declared.ChunkDeserializer.{ChunkDeserializer}
-use Rattle.deserializer.specs.declared.reader.Stage.{Stage}
-use Rattle.deserializer.specs.declared.reader.Stage.the-variants.{Csid}
+use Rattle.byte_machine.specs.declared.reader.Stage.{Stage}
+use Rattle.byte_machine.specs.declared.reader.Stage.the-variants.{Csid}
 use Rattle.deserializer.specs.Answer.{Listed, message, more, refused}
 use Rattle.deserializer.specs.Call.{Outcome, next, outcome, run}
-use Rattle.deserializer.specs.Told.{atStart, between}
+use Rattle.deserializer.specs.Told.{between}
+use Rattle.byte_machine.specs.Reader.{atStart}
 use Rattle.deserializer.proofs.Covers.{bytes-append}
 use Rattle.deserializer.proofs.Cut.{refused-not-more, shift}
 use Rattle.deserializer.proofs.Heading.{starts}

@@ -14,9 +14,9 @@ use Rattle.deserializer.specs.Chunk.{ExtendedFits, FormFits, HeadFits, basicRef
 use Rattle.chunk_meaning.specs.Meaning.{basicRefusal, firstRefusal, laterRefusal, repeats}
 use Rattle.chunk_header.specs.Table.{isEmpty, isFull}
 use Rattle.chunk_header.specs.Limits.{maxField}
-use Rattle.deserializer.specs.Rows.{find, free, rowAt}
+use Rattle.byte_machine.specs.Rows.{find, free, rowAt}
 use Rattle.deserializer.proofs.Reached.{Reached}
-use Rattle.deserializer.proofs.RowLaws.{Distinct, find-none, find-tells}
+use Rattle.byte_machine.proofs.RowLaws.{Distinct, find-none, find-tells}
 use Rattle.deserializer.proofs.Sound.{clash, found}
 use Rattle.refusal_table.specs.Conditions.{AllUsed, Below, HasRow, Inside, Over, Repeats, basic, eleven, fourteen, nine, ten, theRow, thirteen, timeOf, type}
 use Rattle.refusal_table.specs.Terms.{OneOf, _unless_}

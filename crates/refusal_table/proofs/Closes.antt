@@ -6,12 +6,14 @@ use mathlib.Core.Path.{_≡_, refl, sym, ap, _∙_}
 use native.Mathlib.Omega.{arith}
 use lib.ListN.{set, take}
 use Rattle.deserializer.specs.declared.ChunkDeserializer.{ChunkDeserializer}
-use Rattle.deserializer.specs.declared.reader.Event.{Event}
-use Rattle.deserializer.specs.declared.reader.Event.the-variants.{Go, Chunk, Message, Refuse}
-use Rattle.deserializer.specs.declared.reader.Stepped.{Stepped}
+use Rattle.byte_machine.specs.declared.reader.Event.{Event}
+use Rattle.byte_machine.specs.declared.reader.Event.the-variants.{Go, Chunk, Message, Refuse}
+use Rattle.byte_machine.specs.declared.reader.Stepped.{Stepped}
 use Rattle.deserializer.specs.Answer.{refused}
 use Rattle.deserializer.specs.Call.{Outcome, after, end, run, stepOf, writes}
-use Rattle.deserializer.specs.Machine.{inPayload, landed, pays, refuse, stepped}
+use Rattle.byte_machine.specs.Payload.{landed, pays}
+use Rattle.byte_machine.specs.Step.{stepped}
+use Rattle.byte_machine.specs.Reader.{inPayload, refuse}
 use Rattle.deserializer.proofs.Closing.{refusal-only-closes}
 use Rattle.deserializer.proofs.Cut.{refused-not-more}
 use Rattle.deserializer.proofs.Runs.{landed-not-refused}

@@ -11,9 +11,9 @@ use lib.Seq.{sets}
 use borrow.Author.Tests.{eqb-true, eqb-false}
 use Rattle.chunk_header.specs.Layout.{Chunk, Form, one, two, three, basicBytes, chunkBytes, extendedBytes, headerBytes}
 use Rattle.deserializer.specs.declared.ChunkDeserializer.{ChunkDeserializer}
-use Rattle.deserializer.specs.declared.reader.Event.{Event}
-use Rattle.deserializer.specs.declared.reader.Event.the-variants.{Message}
-use Rattle.deserializer.specs.declared.reader.Stage.the-variants.{Csid}
+use Rattle.byte_machine.specs.declared.reader.Event.{Event}
+use Rattle.byte_machine.specs.declared.reader.Event.the-variants.{Message}
+use Rattle.byte_machine.specs.declared.reader.Stage.the-variants.{Csid}
 use Rattle.deserializer.specs.Answer.{Listed, message, more, refused}
 use Rattle.deserializer.specs.Call.{after, end, run}
 use Rattle.deserializer.specs.Chunk.{ChunkFits, HeadFits, basicRefused, got, header, headerRefused}

@@ -12,8 +12,8 @@ use borrow.Author.Tests.{eqb-true, ltb-false, ltb-true}
 use Rattle.fields.specs.Cases.{_when_, first}
 use Rattle.fields.specs.Endian.{Bytes}
 use Rattle.deserializer.specs.declared.ChunkDeserializer.{ChunkDeserializer}
-use Rattle.deserializer.specs.declared.reader.Event.{Event}
-use Rattle.deserializer.specs.declared.reader.Event.the-variants.{Go, Chunk, Message, Refuse}
+use Rattle.byte_machine.specs.declared.reader.Event.{Event}
+use Rattle.byte_machine.specs.declared.reader.Event.the-variants.{Go, Chunk, Message, Refuse}
 use Rattle.deserializer.specs.Answer.{message, more, refused}
 use Rattle.deserializer.specs.Call.{Outcome, after, end, next, run, stepOf, writes}
 use Rattle.deserializer.specs.Told.{between, fresh, made, maxRoom, outcome as telling, refused as no-size, sized, taken, told}

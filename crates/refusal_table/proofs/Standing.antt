@@ -10,23 +10,29 @@ use borrow.Author.Tests.{ne-eqb}
 use Rattle.chunk_header.specs.declared.ChunkHeaderFormat.{ChunkHeaderFormat}
 use Rattle.chunk_header.specs.declared.Csid.{Csid}
 use Rattle.chunk_header.specs.declared.Csid.the-variants.{Id, Incomplete}
+use Rattle.chunk_header.specs.declared.HeaderField.{HeaderField}
+use Rattle.chunk_header.specs.declared.HeaderField.the-variants.{Timestamp, MessageLength as Length, MessageTypeId as TypeId, MessageStreamId as StreamId}
 use Rattle.chunk_header.specs.Basic.{csid}
 use Rattle.chunk_header.specs.Table.{formatOf}
 use Rattle.deserializer.specs.declared.ChunkDeserializer.{ChunkDeserializer}
-use Rattle.deserializer.specs.declared.reader.Event.{Event}
-use Rattle.deserializer.specs.declared.reader.Event.the-variants.{Go, Chunk, Message, Refuse}
-use Rattle.deserializer.specs.declared.reader.Reader.{Reader}
-use Rattle.deserializer.specs.declared.reader.Stage.{Stage}
-use Rattle.deserializer.specs.declared.reader.Stage.the-variants.{Csid as AtCsid, CsidSecond, CsidThird, InitialTimestamp, MessageLength, MessageTypeId, MessageStreamId, ExtendedTimestamp, MessagePayload}
-use Rattle.deserializer.specs.declared.reader.Stepped.{Stepped}
+use Rattle.byte_machine.specs.declared.reader.Event.{Event}
+use Rattle.byte_machine.specs.declared.reader.Event.the-variants.{Go, Chunk, Message, Refuse}
+use Rattle.byte_machine.specs.declared.reader.Reader.{Reader}
+use Rattle.byte_machine.specs.declared.reader.Stage.{Stage}
+use Rattle.byte_machine.specs.declared.reader.Stage.the-variants.{Csid as AtCsid, CsidSecond, CsidThird, InitialTimestamp, MessageLength, MessageTypeId, MessageStreamId, ExtendedTimestamp, MessagePayload}
+use Rattle.byte_machine.specs.declared.reader.Stepped.{Stepped}
 use Rattle.deserializer.specs.Answer.{message, more, refused}
 use Rattle.deserializer.specs.Call.{Outcome, after, closes, end, isRefusal, outcome, run, stepOf, writes}
-use Rattle.deserializer.specs.Machine.{at, basicBy, claims, current, ended, extendedField, extendedNext, gathered, go, headed, inPayload, lacks, landed, lengthField, lengthNext, named, opens, paid, paused, pays, reader, refuse, stepped, streamField, streamNext, swapped, timestampField, timestampNext, typeField, typeNext, unfinished, whole}
+use Rattle.byte_machine.specs.Payload.{landed, paid, pays}
+use Rattle.byte_machine.specs.Step.{basicBy, claims, extendedField, gathered, lengthField, named, stepped, streamField, swapped, timestampField, typeField}
+use Rattle.byte_machine.specs.Header.{extendedNext, lacks, lengthNext, opens, stageOf, streamNext, timestampNext, typeNext, whole}
+use Rattle.byte_machine.specs.Reader.{at, current, ended, go, headed, inPayload, paused, reader, refuse, unfinished, atStart}
 use Rattle.chunk_meaning.specs.Meaning.{basicRefusal, firstRefusal, firstTime, laterRefusal}
 use Rattle.chunk_header.specs.Limits.{maxField}
 use Rattle.chunk_meaning.specs.Stored.{fielded, lengthed, streamed, timed, typed}
-use Rattle.deserializer.specs.Rows.{find, free, rowAt}
-use Rattle.deserializer.specs.Told.{atStart, between}
+use Rattle.byte_machine.specs.Rows.{find, free, rowAt}
+use Rattle.deserializer.specs.Told.{between}
+use Rattle.byte_machine.proofs.Passing.{at-stream, at-type, at-length, at-timestamp}
 use Rattle.deserializer.proofs.Cut.{message-not-more, refused-not-more}
 use Rattle.deserializer.proofs.Reached.{Reached, step-reached}
 use Rattle.deserializer.proofs.Sound.{in-payload-past}
@@ -55,6 +61,13 @@ either : (t : Bool) {a b : Stepped} → Stands a → Stands b → Stands (cond t
 either true p q = p
 either false p q = q
 
+-- a field is not the start of a chunk
+midway : (field : HeaderField) (n : ℕ) → atStart (stageOf field n) ≡ false
+midway Timestamp n = refl
+midway Length n = refl
+midway TypeId n = refl
+midway StreamId n = refl
+
 -- the steps of a header, from its last field to its first
 module _ (room size : ℕ) where
   opens-stands : (r : Reader) (got : ℕ) → Stands (opens size r got)
@@ -79,21 +92,21 @@ module _ (room size : ℕ) where
   extended-stands r =
       either (eqb (r .chunk .header .«timestamp_field») maxField) (going (at r (ExtendedTimestamp 0 4)) refl) (whole-stands r (r .chunk .header .«timestamp_field»))
 
+  -- the next field
+  stops-stand : (r : Reader) (field : HeaderField) → eqb (lacks r field) 0 ≡ false → Stands (go (at r (stageOf field (lacks r field))))
+  stops-stand r field e = going (at r (stageOf field (lacks r field))) (midway field (lacks r field))
+
   stream-stands : (r : Reader) → Stands (streamNext room size r)
-  unfolding streamNext
-  stream-stands r = either (eqb (lacks r 3) 0) (extended-stands r) (going (at r (MessageStreamId 0 (lacks r 3))) refl)
+  stream-stands r = at-stream Stands room size r (stops-stand r) (extended-stands r)
 
   type-stands : (r : Reader) → Stands (typeNext room size r)
-  unfolding typeNext
-  type-stands r = either (eqb (lacks r 2) 0) (stream-stands r) (going (at r MessageTypeId) refl)
+  type-stands r = at-type Stands room size r (stops-stand r) (extended-stands r)
 
   length-stands : (r : Reader) → Stands (lengthNext room size r)
-  unfolding lengthNext
-  length-stands r = either (eqb (lacks r 1) 0) (type-stands r) (going (at r (MessageLength 0 (lacks r 1))) refl)
+  length-stands r = at-length Stands room size r (stops-stand r) (extended-stands r)
 
   timestamp-stands : (r : Reader) → Stands (timestampNext room size r)
-  unfolding timestampNext
-  timestamp-stands r = either (eqb (lacks r 0) 0) (length-stands r) (going (at r (InitialTimestamp 0 (lacks r 0))) refl)
+  timestamp-stands r = at-timestamp Stands room size r (stops-stand r) (extended-stands r)
 
   named-stands : (rows : List ℕ) (r : Reader) (f : ChunkHeaderFormat) (id : ℕ) → Stands (named room size rows r f id)
   unfolding named

@@ -10,7 +10,7 @@ use lib.Seq.{sets}
 use Rattle.fields.specs.Endian.{Bytes}
 use Rattle.chunk_header.specs.Layout.{Chunk, chunkBytes}
 use Rattle.deserializer.specs.declared.ChunkDeserializer.{ChunkDeserializer}
-use Rattle.deserializer.specs.declared.reader.Stage.the-variants.{Csid}
+use Rattle.byte_machine.specs.declared.reader.Stage.the-variants.{Csid}
 use Rattle.deserializer.specs.Answer.{more, refused}
 use Rattle.deserializer.specs.Call.{Outcome, next, outcome, run}
 use Rattle.deserializer.specs.Chunk.{ChunkFits, HeadFits, got}

@@ -8,7 +8,7 @@ use Rattle.user_control.specs.Reading.{codeIn}
 use Rattle.chunk_header.specs.Layout.{Chunk, Header, type0, type1, type2, type3, Extended, absent, present, basicBytes, headerBytes, extendedBytes, format}
 use Rattle.deserializer.specs.declared.ChunkDeserializer.{ChunkDeserializer}
 use Rattle.chunk_meaning.specs.declared.Row.{Row}
-use Rattle.deserializer.specs.Rows.{rowAt}
+use Rattle.byte_machine.specs.Rows.{rowAt}
 use Rattle.refusal_table.specs.Terms.{OneOf}
 
 -- "after the first byte of a message and before its end": some bytes have come since the last message ended

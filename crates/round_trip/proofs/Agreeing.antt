@@ -18,7 +18,7 @@ use Rattle.serializer.specs.Message.{chunkStream}
 use Rattle.serializer.specs.Serialize.{fresh, previous, remember, rowOf}
 use Rattle.serializer.proofs.Stream.{stream-range}
 use Rattle.deserializer.specs.declared.ChunkDeserializer.{ChunkDeserializer}
-use Rattle.deserializer.specs.declared.reader.Stage.the-variants.{Csid}
+use Rattle.byte_machine.specs.declared.reader.Stage.the-variants.{Csid}
 use Rattle.deserializer.specs.Told.{made, maxRoom}
 use Rattle.deserializer.proofs.Reached.{Reached, made-reached}
 use Rattle.deserializer.proofs.Sound.{clash}

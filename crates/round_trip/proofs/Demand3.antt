@@ -13,8 +13,8 @@ use Rattle.serializer.specs.Answer.{refused as not-written}
 use Rattle.serializer.specs.Header.{header}
 use Rattle.serializer.specs.Serialize.{fresh, packetOf, previous, remember}
 use Rattle.deserializer.specs.declared.ChunkDeserializer.{ChunkDeserializer}
-use Rattle.deserializer.specs.declared.reader.Reader.{Reader}
-use Rattle.deserializer.specs.declared.reader.Stage.the-variants.{Csid}
+use Rattle.byte_machine.specs.declared.reader.Reader.{Reader}
+use Rattle.byte_machine.specs.declared.reader.Stage.the-variants.{Csid}
 use Rattle.deserializer.specs.Call.{run}
 use Rattle.deserializer.specs.Told.{between, outcome as telling, sized, taken, told, maxRoom, made}
 use Rattle.chunk_header.specs.Limits.{maxSize}

@@ -24,7 +24,7 @@ use Rattle.deserializer.specs.Chunk.{ChunkFits, basicRefused, headerRefused, st
 use Rattle.deserializer.specs.Chunk.{header as headed}
 use Rattle.chunk_meaning.specs.Meaning.{firstRefusal, basicRefusal}
 use Rattle.chunk_header.specs.Table.{isFull}
-use Rattle.deserializer.specs.Rows.{find, free}
+use Rattle.byte_machine.specs.Rows.{find, free}
 use Rattle.round_trip.proofs.Held.{Held, Spare, free-some}
 use Rattle.round_trip.proofs.Wire.{Fits, Taken, extended-fits, fields-fit, row-held, row-id, rowFor, says-field}
 

@@ -9,11 +9,10 @@ use lib.Dec.{ltb, eqb}
 use lib.ListN.{length, getD}
 use borrow.Author.Tests.{eqb-true, eqb-false, le-ltb, lt-ltb, ltb-true, ltb-false}
 use Rattle.chunk_meaning.specs.declared.Row.{Row}
-use Rattle.deserializer.specs.Call.{putAt}
 use Rattle.deserializer.specs.Chunk.{placeOf}
 use Rattle.chunk_meaning.specs.Stored.{claimed}
-use Rattle.deserializer.specs.Rows.{find, free, putRow, rowAt}
-use Rattle.deserializer.proofs.RowLaws.{Distinct, alone-none, alone-there, distinct-put, find-first, find-other, find-put, find-tells, id-other, length-putRow, row-other, row-put}
+use Rattle.byte_machine.specs.Rows.{find, free, putRow, rowAt, putAt}
+use Rattle.byte_machine.proofs.RowLaws.{Distinct, alone-none, alone-there, distinct-put, find-first, find-other, find-put, find-tells, id-other, length-putRow, row-other, row-put}
 
 -- a stream's row is in the table
 pub record Held (rows : List ℕ) (id : ℕ) (row : Row) : Type 0 where

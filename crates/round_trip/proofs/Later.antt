@@ -14,7 +14,7 @@ use Rattle.deserializer.specs.declared.ChunkDeserializer.{ChunkDeserializer}
 use Rattle.deserializer.specs.Chunk.{ChunkFits, basicRefused, headerRefused, row, stored}
 use Rattle.deserializer.specs.Chunk.{header as headed}
 use Rattle.chunk_meaning.specs.Meaning.{basicRefusal, laterRefusal}
-use Rattle.deserializer.specs.Rows.{find}
+use Rattle.byte_machine.specs.Rows.{find}
 use Rattle.round_trip.proofs.Held.{Held}
 use Rattle.serializer.specs.Packet.{laterFormat}
 use Rattle.round_trip.proofs.Wire.{Fits, Taken, extended-fits, fields-fit, row-held, rowFor, says-field}

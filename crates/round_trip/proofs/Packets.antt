@@ -17,7 +17,7 @@ use Rattle.serializer.specs.Packet.{chunk, laterFormat, packet}
 use Rattle.serializer.proofs.Later.{later}
 use Rattle.serializer.proofs.Pieces.{pieces-step}
 use Rattle.deserializer.specs.declared.ChunkDeserializer.{ChunkDeserializer}
-use Rattle.deserializer.specs.declared.reader.Stage.the-variants.{Csid}
+use Rattle.byte_machine.specs.declared.reader.Stage.the-variants.{Csid}
 use Rattle.deserializer.specs.Call.{run}
 use Rattle.deserializer.specs.Chunk.{got}
 use Rattle.deserializer.proofs.Reached.{Reached}

@@ -16,7 +16,7 @@ use Rattle.chunk_header.specs.Layout.{Chunk, chunkBytes}
 use Rattle.serializer.specs.Packet.{chunk, laterFormat}
 use Rattle.serializer.proofs.Later.{later, later-none, later-step}
 use Rattle.deserializer.specs.declared.ChunkDeserializer.{ChunkDeserializer}
-use Rattle.deserializer.specs.declared.reader.Stage.the-variants.{Csid}
+use Rattle.byte_machine.specs.declared.reader.Stage.the-variants.{Csid}
 use Rattle.deserializer.specs.Answer.{message as found}
 use Rattle.deserializer.specs.Call.{Outcome, outcome, run}
 use Rattle.deserializer.specs.Chunk.{got}

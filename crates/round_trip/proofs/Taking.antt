@@ -11,12 +11,13 @@ use borrow.Author.Tests.{le-ltb, lt-ltb}
 use Rattle.chunk_header.specs.declared.ChunkHeader.{ChunkHeader}
 use Rattle.chunk_header.specs.Layout.{Chunk, chunkBytes}
 use Rattle.deserializer.specs.declared.ChunkDeserializer.{ChunkDeserializer}
-use Rattle.deserializer.specs.declared.reader.Event.{Event}
-use Rattle.deserializer.specs.declared.reader.Event.the-variants.{Message}
-use Rattle.deserializer.specs.declared.reader.Stage.the-variants.{Csid}
+use Rattle.byte_machine.specs.declared.reader.Event.{Event}
+use Rattle.byte_machine.specs.declared.reader.Event.the-variants.{Message}
+use Rattle.byte_machine.specs.declared.reader.Stage.the-variants.{Csid}
 use Rattle.chunk_meaning.specs.declared.Row.{Row}
 use Rattle.deserializer.specs.Answer.{message as found}
-use Rattle.deserializer.specs.Call.{after, end, outcome, putAt, run}
+use Rattle.deserializer.specs.Call.{after, end, outcome, run}
+use Rattle.byte_machine.specs.Rows.{putAt}
 use Rattle.deserializer.specs.Chunk.{got, header, placeOf, stored}
 use Rattle.deserializer.proofs.Accepts.{accepts}
 use Rattle.deserializer.proofs.Reached.{Reached, run-reached}

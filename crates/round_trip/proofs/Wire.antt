@@ -15,8 +15,8 @@ use Rattle.chunk_header.specs.Limits.{maxField}
 use Rattle.deserializer.specs.declared.ChunkDeserializer.{ChunkDeserializer}
 use Rattle.chunk_meaning.specs.declared.Row.{Row}
 use Rattle.deserializer.specs.Chunk.{ChunkFits, ExtendedFits, HeaderFits, basicRefused, headerRefused, row, stored, says}
-use Rattle.deserializer.specs.Rows.{find}
-use Rattle.deserializer.proofs.RowLaws.{find-tells}
+use Rattle.byte_machine.specs.Rows.{find}
+use Rattle.byte_machine.proofs.RowLaws.{find-tells}
 use Rattle.round_trip.proofs.Held.{Held}
 
 -- the row that the decoder is to hold for what the encoder remembers: its time field is the wire's

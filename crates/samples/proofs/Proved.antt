@@ -10,25 +10,11 @@ use Rattle.serializer.specs.Packet.{pieces, packet}
 use Rattle.serializer.specs.Serialize.{serialized, sizeChanged}
 use Rattle.chunk_header.specs.Table.{fieldLength, formatOf}
 use Rattle.deserializer.specs.Call.{after, next, run, stepOf, writes}
-use Rattle.deserializer.specs.Machine.{
-  opens,
-  whole,
-  extendedNext,
-  streamNext,
-  typeNext,
-  lengthNext,
-  timestampNext,
-  named,
-  timestampField,
-  lengthField,
-  typeField,
-  streamField,
-  extendedField,
-  pays,
-  landed,
-}
+use Rattle.byte_machine.specs.Payload.{pays, landed}
+use Rattle.byte_machine.specs.Step.{named, timestampField, lengthField, typeField, streamField, extendedField}
+use Rattle.byte_machine.specs.Header.{opens, whole, extendedNext, streamNext, typeNext, lengthNext, timestampNext}
 use Rattle.chunk_meaning.specs.Meaning.{basicRefusal, laterRefusal, firstRefusal}
-use Rattle.deserializer.specs.Rows.{putRow, seek}
+use Rattle.byte_machine.specs.Rows.{putRow, seek}
 use Rattle.deserializer.specs.Told.{made}
 use Rattle.samples.specs.Sample.{AsPrinted}
 use Rattle.samples.specs.Table.{table}

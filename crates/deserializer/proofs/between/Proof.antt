@@ -5,7 +5,7 @@ use mathlib.Core.Path.{_≡_, refl, sym, _∙_}
 use lib.Dec.{eqb}
 use native.Mathlib.Omega.{arith}
 use borrow.Author.Needs.{needs}
-use Rattle.deserializer.specs.Told.{atStart}
+use Rattle.byte_machine.specs.Reader.{atStart}
 use Rattle.deserializer.proofs.between.Statement.{statement}
 use Rattle.deserializer.proofs.between.Tie as tie
 

@@ -5,8 +5,8 @@ use mathlib.Core.List.{List}
 use native.Mathlib.Omega.{arith}
 use borrow.Author.Needs.{needs}
 use lib.ListN.{length, drop}
-use Rattle.deserializer.specs.declared.reader.Event.{Event}
-use Rattle.deserializer.specs.declared.reader.Event.the-variants.{Go, Chunk, Message, Refuse}
+use Rattle.byte_machine.specs.declared.reader.Event.{Event}
+use Rattle.byte_machine.specs.declared.reader.Event.the-variants.{Go, Chunk, Message, Refuse}
 use Rattle.deserializer.specs.Answer.{Listed, answerOf}
 use Rattle.deserializer.specs.Call.{outcome, read, run}
 use Rattle.deserializer.specs.Turn.{follows, whole}

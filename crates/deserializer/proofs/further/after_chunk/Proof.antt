@@ -1,5 +1,6 @@
 -- Where every test is passed, a run of further chunks may begin; else nothing follows.
 use mathlib.Core.Path.{sym, _∙_}
+use Rattle.byte_machine.proofs.RowLaws.{in-table}
 use Rattle.deserializer.proofs.FurtherOn.{begins-at, stays}
 use Rattle.deserializer.proofs.Heading.{starts}
 use borrow.Author.Needs.{needs}
@@ -55,8 +56,8 @@ returns-5 c =
     let s = c .before .before .before .before .before .before .before .before .before .before .before .before in
     stays (s .args .core) (s .args .rows .now) (s .args .input .now) (s .args .payload .now) (s .args .at) (c .stay5 .result) (c .stay5 .ensures) (s .pre .0)
 
-row-at-requires : tie.Need-row-at-requires
-row-at-requires c κs = search needs
+row-or-empty-requires : tie.Need-row-or-empty-requires
+row-or-empty-requires c κs = search needs
 
 stay-requires-6 : tie.Need-stay-requires-6
 stay-requires-6 c κs = search needs
@@ -78,7 +79,7 @@ chunks-requires : tie.Need-chunks-requires
 chunks-requires c κs =
     let s = c .before .before .before .before .before .before .before .before .before .before .before .before .before .before .before .before .before .before in
     let a = s .args in
-    begins-at (a .core) (a .rows .now) (a .input .now) (a .payload .now) (c .before .before .before .before .before .before .before .before .before .before .find .result) (a .at) (c .before .before .before .before .before .before .row-at .result) (starts (a .core .reader .stage) (sym (c .before .before .before .before .before .before .before .before .before .before .before .before .before .before .is-midway .ensures) ∙ c .before .before .before .before .before .before .before .before .before .before .before .before .before .if1 .left)) (c .before .before .before .before .before .before .before .before .before .before .before .before .if2 .left) (c .before .before .before .before .before .before .before .before .before .before .before .if3 .left) (c .before .before .before .before .before .before .before .before .before .before .find .ensures) (c .before .before .before .before .before .before .before .before .before .if4 .left) (sym (c .before .before .before .before .before .before .before .before .has-wide-type .ensures) ∙ c .before .before .before .before .before .before .before .if5 .left) (c .before .before .before .before .before .before .row-at .ensures) (c .before .before .before .before .if6 .left) (c .before .if7 .left) (s .pre .0) (s .pre .1)
+    begins-at (a .core) (a .rows .now) (a .input .now) (a .payload .now) (c .before .before .before .before .before .before .before .before .before .before .find .result) (a .at) (c .before .before .before .before .before .before .row-or-empty .result) (starts (a .core .reader .stage) (sym (c .before .before .before .before .before .before .before .before .before .before .before .before .before .before .is-midway .ensures) ∙ c .before .before .before .before .before .before .before .before .before .before .before .before .before .if1 .left)) (c .before .before .before .before .before .before .before .before .before .before .before .before .if2 .left) (c .before .before .before .before .before .before .before .before .before .before .before .if3 .left) (c .before .before .before .before .before .before .before .before .before .before .find .ensures) (c .before .before .before .before .before .before .before .before .before .if4 .left) (sym (c .before .before .before .before .before .before .before .before .has-wide-type .ensures) ∙ c .before .before .before .before .before .before .before .if5 .left) (c .before .before .before .before .before .before .row-or-empty .ensures ∙ in-table (a .rows .now) (c .before .before .before .before .before .before .before .before .before .before .find .result) (c .before .before .before .before .before .before .before .before .before .if4 .left)) (c .before .before .before .before .if6 .left) (c .before .if7 .left) (s .pre .0) (s .pre .1)
 
 same-length : tie.Need-same-length
 same-length c = search needs
@@ -103,7 +104,7 @@ after-chunk-spec =
     has-wide-type-requires
     stay-requires-5
     returns-5
-    row-at-requires
+    row-or-empty-requires
     stay-requires-6
     returns-6
     stay-requires-7

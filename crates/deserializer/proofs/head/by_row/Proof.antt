@@ -1,6 +1,7 @@
 -- A header that is refused, or has an extended time, goes byte by byte.
 use Prim.Native.Nat.{ℕ, _+_}
 use Rattle.chunk_header.proofs.Table.{header-most}
+use Rattle.byte_machine.proofs.RowLaws.{in-table}
 use Rattle.deserializer.proofs.Heading.{heads-known}
 use native.Mathlib.Omega.{arith}
 use mathlib.Core.Path.{refl, sym, ap, _∙_}
@@ -8,8 +9,8 @@ use borrow.Author.Needs.{needs}
 use Rattle.deserializer.proofs.head.by_row.Statement.{statement}
 use Rattle.deserializer.proofs.head.by_row.Tie as tie
 
-row-at-requires : tie.Need-row-at-requires
-row-at-requires c κs = search needs
+row-or-empty-requires : tie.Need-row-or-empty-requires
+row-or-empty-requires c κs = search needs
 
 carried-requires : tie.Need-carried-requires
 carried-requires c κs = search needs
@@ -56,7 +57,7 @@ add-t15 c = omega (arith, c .header-length .ensures, header-most (c .before .bef
 returns-4 : tie.Need-returns-4
 returns-4 c =
     let s = c .before .before .before .before .before .before .before .before .before .before .before .before in
-    heads-known (s .args .core) (s .args .rows .now) (s .args .input .now) (s .args .format) (s .args .place) (s .pre) (c .before .before .before .before .before .before .before .before .before .before .row-at .result) (c .before .before .before .before .before .before .before .before .before .carried .result) (c .before .before .before .before .before .before .before .before .before .before .row-at .ensures) (c .before .before .before .before .before .before .before .before .before .carried .ensures)
+    heads-known (s .args .core) (s .args .rows .now) (s .args .input .now) (s .args .format) (s .args .place) (s .pre) (c .before .before .before .before .before .before .before .before .before .before .row-or-empty .result) (c .before .before .before .before .before .before .before .before .before .carried .result) (c .before .before .before .before .before .before .before .before .before .before .row-or-empty .ensures ∙ in-table (s .args .rows .now) (s .args .place) (s .pre .found)) (c .before .before .before .before .before .before .before .before .before .carried .ensures)
     (c .before .before .before .before .before .before .before .if1 .left)
     (sym (c .before .before .before .before .before .basic-refusal .ensures) ∙ c .before .before .before .before .if2 .left)
     (sym (c .before .before .before .refusal-of .ensures) ∙ c .before .before .if3 .left)
@@ -68,7 +69,7 @@ pub by-row-spec : {M : Type 1} → statement M
 by-row-spec =
     tie.close
     (tie.spec
-    row-at-requires
+    row-or-empty-requires
     carried-requires
     by-byte-requires
     returns

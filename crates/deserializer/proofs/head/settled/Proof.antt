@@ -1,8 +1,9 @@
 -- A first chunk settles the time, and a later one leaves it.
 use Rattle.chunk_meaning.specs.Stored.{timed}
-use Rattle.deserializer.specs.Machine.{current, opens, reader}
+use Rattle.byte_machine.specs.Header.{opens}
+use Rattle.byte_machine.specs.Reader.{current, reader}
 use Rattle.chunk_meaning.specs.declared.Row.{Row}
-use Rattle.deserializer.specs.declared.reader.Reader.{Reader}
+use Rattle.byte_machine.specs.declared.reader.Reader.{Reader}
 use borrow.Author.Tests.{eq-eqb, ne-eqb}
 use mathlib.Core.Path.{ap, _∙_}
 use borrow.Author.Needs.{needs}

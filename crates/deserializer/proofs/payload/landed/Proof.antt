@@ -1,6 +1,6 @@
 -- In its chunk still, between chunks, or at the end.
 use borrow.Author.Tests.{lt-ltb, le-ltb, eq-eqb, ne-eqb}
-use Rattle.deserializer.specs.Machine.{landed}
+use Rattle.byte_machine.specs.Payload.{landed}
 use borrow.Author.Needs.{needs}
 use Rattle.deserializer.proofs.payload.landed.Statement.{statement}
 use Rattle.deserializer.proofs.payload.landed.Tie as tie

@@ -1,0 +1,4 @@
+pub mod Naming
+pub mod Passing
+pub mod RowLaws
+pub mod Table

@@ -1,0 +1,5 @@
+pub mod Header
+pub mod Payload
+pub mod Reader
+pub mod Rows
+pub mod Step

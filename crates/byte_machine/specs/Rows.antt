@@ -1,0 +1,50 @@
+-- The table of 64 header rows: six numbers a row, and a row of id 0 is free.
+use Prim.Native.Nat.{ℕ, zero, suc, _+_, _*_, _%_}
+use mathlib.Core.Bool.{cond}
+use mathlib.Core.List.{List, [], _∷_}
+use lib.Dec.{ltb, eqb}
+use lib.ListN.{getD}
+use lib.Seq.{sets}
+use Rattle.chunk_meaning.specs.declared.Row.{Row}
+use Rattle.chunk_meaning.specs.Stored.{claimed, row}
+
+abbrev pub rowCount : ℕ
+rowCount = 64
+
+-- the numbers of a row, and where they begin
+abbrev pub rowLength : ℕ
+rowLength = 6
+
+abbrev pub start : ℕ → ℕ
+start i = rowLength * i
+
+abbrev pub rowAt : List ℕ → ℕ → Row
+rowAt rows i =
+    row (getD rows (start i) 0) (getD rows (start i + 1) 0) (getD rows (start i + 2) 0) (getD rows (start i + 3) 0) (getD rows (start i + 4) 0 % 256)
+    (getD rows (start i + 5) 0)
+
+abbrev pub numbers : Row → List ℕ
+numbers r = r .id ∷ r .timestamp .value ∷ r .«timestamp_field» ∷ r .«message_length» ∷ r .«message_type_id» ∷ r .«message_stream_id» ∷ []
+
+unfoldable pub putRow : List ℕ → ℕ → Row → List ℕ
+putRow rows i r = sets rows (start i) (numbers r)
+
+-- a row put at a place, where the table has one
+abbrev pub putAt : List ℕ → ℕ → Row → List ℕ
+putAt rows place r = cond (ltb place rowCount) (putRow rows place r) rows
+
+-- of n rows from i on, the first of that id; 64 where there is none
+unfoldable pub seek : ℕ → ℕ → List ℕ → ℕ → ℕ
+seek zero i rows id = rowCount
+seek (suc n) i rows id = cond (eqb (getD rows (start i) 0) id) i (seek n (suc i) rows id)
+
+abbrev pub find : List ℕ → ℕ → ℕ
+find rows id = seek rowCount 0 rows id
+
+-- the first free row; 64 where all are used
+abbrev pub free : List ℕ → ℕ
+free rows = find rows 0
+
+-- the row at a place; an empty one where the table has none there
+abbrev pub rowOrEmpty : List ℕ → ℕ → Row
+rowOrEmpty rows place = cond (ltb place rowCount) (rowAt rows place) (claimed 0)

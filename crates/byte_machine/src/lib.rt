@@ -1,0 +1,33 @@
+// The machine that takes the bytes of a header one after the other, over a table of rows lent to it.
+mod basic;
+mod byte;
+mod header;
+mod numbers;
+mod parts;
+mod payload;
+mod reader;
+mod rows;
+mod stage;
+
+pub use crate::byte::step;
+pub use crate::header::opens;
+pub use crate::numbers::lacking;
+pub use crate::numbers::least;
+pub use crate::numbers::wide;
+pub use crate::parts::ended;
+pub use crate::parts::go;
+pub use crate::parts::paused;
+pub use crate::parts::refuse;
+pub use crate::payload::pays;
+pub use crate::reader::Current;
+pub use crate::reader::Event;
+pub use crate::reader::Reader;
+pub use crate::reader::Stage;
+pub use crate::reader::Stepped;
+pub use crate::reader::Unfinished;
+pub use crate::rows::ROWS;
+pub use crate::rows::find;
+pub use crate::rows::put_at;
+pub use crate::rows::row_or_empty;
+pub use crate::stage::in_payload;
+pub use crate::stage::is_midway;
