@@ -5,7 +5,7 @@ use mathlib.Core.Logic.{_≢_}
 use mathlib.Core.Bool.{Bool, true, false, cond, not}
 use mathlib.Core.List.{List, [], _∷_, _++_, append-assoc}
 use native.Mathlib.Omega.{arith}
-use lib.Dec.{eqb, lit≤, ltb}
+use lib.Dec.{eqb, ltb}
 use lib.ListN.{length, take, drop, getD, length-drop, length-take, take-append-drop}
 use lib.Seq.{drop-cons, drop-drop, take-all}
 use borrow.Author.Tests.{lt-ltb}
@@ -221,15 +221,6 @@ starts MessageTypeId e = never (sym e)
 starts (MessageStreamId before lacks) e = never (sym e)
 starts (ExtendedTimestamp before lacks) e = never (sym e)
 starts MessagePayload e = never (sym e)
-
--- lengths of headers
-pub full-length : (f : ChunkHeaderFormat) → f ≡ Full → 7 ≤ headerLength (typeOf f)
-unfolding headerLength fieldLength
-full-length f e = rw e (lit≤ tt)
-
-pub delta-length : (f : ChunkHeaderFormat) → f ≡ TimeDeltaWithoutMessageStreamId → 7 ≤ headerLength (typeOf f)
-unfolding headerLength fieldLength
-delta-length f e = rw e (lit≤ tt)
 
 -- a turn at a place of the input, over what is left of it
 module _ (d : ChunkDeserializer) (input : List ℕ) (at : ℕ) (t : Taken) (h : Heads d (take (length input - at) (drop at input)) t) where

@@ -5,6 +5,7 @@ ghost use Prim.Native.Nat.{_+_, _≤_, _<_};
 ghost use lib.ListN.{length, take, drop};
 ghost use Rattle.fields.specs.Endian.{number};
 ghost use Rattle.chunk_header.specs.Table.{headerLength, typeOf};
+ghost use Rattle.chunk_header.specs.declared.ChunkHeaderFormat.the-variants.{TimeDeltaWithoutMessageStreamId};
 ghost use Rattle.deserializer.specs.Chunk.{carried as Chunk·carried};
 ghost use Rattle.deserializer.specs.Head.{Heads, Known, headerIn, refusalOf, settledBy};
 ghost use Rattle.byte_machine.specs.Step.{swapped};
@@ -71,20 +72,23 @@ fn stream_in(input: &[u8]) -> u32
     swap_bytes(number_at(input, 8, 4))
 }
 
+// Time, length and type, in the place of the row's.
+fn with_type(row: Row, input: &[u8]) -> Row
+    requires { ⌜ 7 < length (now input) ⌝ }
+    ensures { λ r. ⌜ r ≡ Chunk·carried (headerIn TimeDeltaWithoutMessageStreamId (now (input .entry))) row ⌝ }
+{
+    let sized = lengthed(fielded(row, time_in(input)), length_in(input));
+    typed(sized, type_in(input))
+}
+
 // The fields that a header has, in the place of the row's.
 fn carried(format: ChunkHeaderFormat, row: Row, input: &[u8]) -> Row
     requires { ⌜ 1 + headerLength (typeOf format) ≤ length (now input) ⌝ }
     ensures { λ r. ⌜ r ≡ Chunk·carried (headerIn format (now (input .entry))) row ⌝ }
 {
     match format {
-        ChunkHeaderFormat::Full => {
-            let sized = lengthed(fielded(row, time_in(input)), length_in(input));
-            streamed(typed(sized, type_in(input)), stream_in(input))
-        }
-        ChunkHeaderFormat::TimeDeltaWithoutMessageStreamId => {
-            let sized = lengthed(fielded(row, time_in(input)), length_in(input));
-            typed(sized, type_in(input))
-        }
+        ChunkHeaderFormat::Full => streamed(with_type(row, input), stream_in(input)),
+        ChunkHeaderFormat::TimeDeltaWithoutMessageStreamId => with_type(row, input),
         ChunkHeaderFormat::TimeDeltaOnly => fielded(row, time_in(input)),
         ChunkHeaderFormat::Empty => row,
     }
