@@ -1,7 +1,7 @@
 -- Field lengths by chunk type (document 01, "A chunk on the wire").
 use Prim.Native.Nat.{ℕ, _+_}
 use mathlib.Core.Bool.{Bool, true, false, cond}
-use mathlib.Core.List.{List, [], _∷_}
+use mathlib.Core.List.{[], _∷_}
 use lib.Dec.{ltb, leb}
 use lib.ListN.{getD}
 use Rattle.fields.specs.Cases.{_when_, first}

@@ -38,6 +38,10 @@ pub record Turned (c : Core) (rows input : List ℕ) (at : ℕ) (payload : List 
   pub room : r .core .room ≡ c .room
   pub runs : run (drop at input) (whole c rows) payload at ≡ follows (r .event) (whole (r .core) rows′) payload′ (r .at) (drop (r .at) input)
 
+-- a turn over header bytes leaves any payload buffer as it was
+abbrev pub HeadTurned : Core → List ℕ → List ℕ → ℕ → Moved → List ℕ → Type 0
+HeadTurned c rows input at r rows′ = (payload : List ℕ) → Turned c rows input at payload r rows′ payload
+
 -- a stretch of payload may come: there is input, the chunk lacks a byte and ends within the room, and so within the buffer
 pub record Pays (c : Core) (input : List ℕ) (at : ℕ) (payload : List ℕ) : Type 0 where
   pub stage : inPayload (c .reader .stage) ≡ true

@@ -1,10 +1,12 @@
 // A call: header bytes one by one and payload by stretches, until a message, a refusal or the end of the input.
 ghost use mathlib.Core.Path.{_≡_};
 ghost use Prim.Native.Nat.{_≤_, _<_, min};
+ghost use mathlib.Core.Bool.{false};
 ghost use lib.ListN.{length};
+ghost use Rattle.byte_machine.specs.Reader.{inPayload};
 ghost use Rattle.deserializer.specs.Call.{closes as Call·closes, isRefusal};
 ghost use Rattle.byte_machine.specs.Rows.{putAt};
-ghost use Rattle.deserializer.specs.Turn.{Keeps, Pays, Turned, changed as Turn·changed};
+ghost use Rattle.deserializer.specs.Turn.{HeadTurned, Keeps, Pays, Turned, changed as Turn·changed};
 use crate::further::further;
 use crate::head::head;
 use crate::payload::landed;
@@ -128,7 +130,22 @@ fn stretch(core: Core, rows: &mut [u32; 384], input: &[u8], at: usize, payload: 
     keep(core, rows, landed(core.reader, n as u32), at + n)
 }
 
-// Takes a stretch of a payload, a byte of a header that was cut, or a header from its start ..
+// Takes a byte of a header that was cut, or a header from its start.
+fn by_header(core: Core, rows: &mut [u32; 384], input: &[u8], at: usize) -> Moved
+    requires { ⌜ (inPayload (core .reader .stage) ≡ false) × (at < length (now input)) ⌝ }
+    ensures { λ r. ⌜ HeadTurned core (now (rows .entry)) (now (input .entry)) at r (now (rows .exit)) ⌝ }
+{
+    let reader = core.reader;
+    let stage = reader.stage;
+    if is_midway(stage) {
+        let stepped = step(core.room, core.max_chunk_size, rows, reader, input[at]);
+        return keep(core, rows, stepped, at + 1);
+    }
+    let taken = head(core, rows, &input[at..]);
+    keep(core, rows, taken.stepped, at + taken.length)
+}
+
+// Takes a stretch of a payload, or what it can of a header ..
 fn once(core: Core, rows: &mut [u32; 384], input: &[u8], at: usize, payload: &mut [u8]) -> Moved
     requires { ⌜ (core .room ≤ length (now payload)) × (at < length (now input)) ⌝ }
     ensures { λ r. ⌜ Turned core (now (rows .entry)) (now (input .entry)) at (now (payload .entry)) r (now (rows .exit)) (now (payload .exit)) ⌝ }
@@ -141,12 +158,7 @@ fn once(core: Core, rows: &mut [u32; 384], input: &[u8], at: usize, payload: &mu
         }
         return keep(core, rows, refuse(reader, 255), at + 1);
     }
-    if is_midway(stage) {
-        let stepped = step(core.room, core.max_chunk_size, rows, reader, input[at]);
-        return keep(core, rows, stepped, at + 1);
-    }
-    let taken = head(core, rows, &input[at..]);
-    keep(core, rows, taken.stepped, at + taken.length)
+    by_header(core, rows, input, at)
 }
 
 // .. and the chunks of the same message that may follow at once.

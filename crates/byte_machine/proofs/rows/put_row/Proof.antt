@@ -1,5 +1,5 @@
 -- Six stores, one after the other.
-use Prim.Native.Nat.{ℕ, suc, _+_, _*_}
+use Prim.Native.Nat.{suc, _+_, _*_}
 use mathlib.Core.Path.{_≡_}
 use native.Mathlib.Omega.{arith}
 use Rattle.byte_machine.specs.Rows.{putRow}
