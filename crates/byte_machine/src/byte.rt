@@ -10,6 +10,7 @@ use crate::header::whole;
 use crate::parts::at;
 use crate::parts::go;
 use crate::parts::refuse;
+use crate::reader::GUARD;
 use crate::reader::Reader;
 use crate::reader::Stage;
 use crate::reader::Stepped;
@@ -133,6 +134,6 @@ pub fn step(room: u32, size: u32, rows: &[u32; 384], reader: Reader, byte: u8) -
         Stage::MessageTypeId => type_field(room, size, reader, byte),
         Stage::MessageStreamId(n, lacks) => stream_field(room, size, reader, n, lacks, byte),
         Stage::ExtendedTimestamp(n, lacks) => extended_field(room, size, reader, n, lacks, byte),
-        Stage::MessagePayload => refuse(reader, 255),
+        Stage::MessagePayload => refuse(reader, GUARD),
     }
 }

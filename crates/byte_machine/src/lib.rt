@@ -21,6 +21,7 @@ pub use crate::parts::refuse;
 pub use crate::payload::pays;
 pub use crate::reader::Current;
 pub use crate::reader::Event;
+pub use crate::reader::GUARD;
 pub use crate::reader::Reader;
 pub use crate::reader::Stage;
 pub use crate::reader::Stepped;

@@ -37,6 +37,9 @@ pub struct Reader {
     pub message: Unfinished,
 }
 
+// What is answered where a guard finds a reader that no call makes: no number of document 01.
+pub const GUARD: u8 = 255;
+
 // What a byte settled. A message says that its chunk is finished too.
 pub enum Event {
     Go,

@@ -10,26 +10,21 @@ use Rattle.byte_machine.specs.declared.reader.Event.{Event}
 use Rattle.byte_machine.specs.declared.reader.Event.the-variants.{Go, Chunk, Message, Refuse}
 use Rattle.byte_machine.specs.declared.reader.Reader.{Reader}
 use Rattle.byte_machine.specs.declared.reader.Stepped.{Stepped}
-use Rattle.chunk_meaning.specs.declared.Row.{Row}
 use Rattle.deserializer.specs.Answer.{Listed, message, more, refused}
 use Rattle.byte_machine.specs.Payload.{landed, pays}
 use Rattle.byte_machine.specs.Step.{stepped}
-use Rattle.byte_machine.specs.Reader.{inPayload, refuse}
-use Rattle.byte_machine.specs.Rows.{putRow}
+use Rattle.byte_machine.specs.Reader.{guard, inPayload, refuse}
+use Rattle.byte_machine.specs.Rows.{putAt}
 
 -- what a byte does: a byte of a payload that may come is stored at its own place
 unfoldable pub stepOf : ChunkDeserializer → ℕ → Stepped
 stepOf d b =
     cond (inPayload (d .reader .stage))
-    (cond (pays (d .room) (d .reader)) (landed (d .reader) 1) (refuse (d .reader) 255))
+    (cond (pays (d .room) (d .reader)) (landed (d .reader) 1) (refuse (d .reader) guard))
     (stepped (d .reader .stage) (d .room) (d .«max_chunk_size») (d .rows) (d .reader) b)
 
 unfoldable pub writes : ChunkDeserializer → List ℕ → ℕ → List ℕ
 writes d payload b = cond (inPayload (d .reader .stage)) (cond (pays (d .room) (d .reader)) (set payload (d .reader .message .got) b) payload) payload
-
--- the header so far is put in the row where the step says one
-abbrev pub putAt : List ℕ → ℕ → Row → List ℕ
-putAt rows place row = cond (ltb place 64) (putRow rows place row) rows
 
 -- a refusal closes the decoder with its own number
 abbrev pub closes : Event → ℕ → ℕ

@@ -14,7 +14,7 @@ use Rattle.chunk_meaning.specs.declared.Row.{Row}
 use Rattle.chunk_meaning.specs.Meaning.{basicRefusal, firstRefusal, firstTime, laterRefusal}
 use Rattle.chunk_header.specs.Limits.{maxField}
 use Rattle.chunk_meaning.specs.Stored.{claimed, fielded, lengthed, streamed, timed, typed}
-use Rattle.byte_machine.specs.Rows.{find, free, rowAt}
+use Rattle.byte_machine.specs.Rows.{find, free, rowAt, rowCount}
 
 abbrev pub formatFor : Header → ChunkHeaderFormat
 formatFor (type0 time length type stream) = Full
@@ -54,10 +54,10 @@ FormFits three id = (64 ≤ id) × (id ≤ 65599)
 
 -- the place of a stream's row, and that row: its own, or the first free one, just claimed
 abbrev pub placeOf : List ℕ → ℕ → ℕ
-placeOf rows id = cond (ltb (find rows id) 64) (find rows id) (free rows)
+placeOf rows id = cond (ltb (find rows id) rowCount) (find rows id) (free rows)
 
 abbrev pub rowOf : List ℕ → ℕ → Row
-rowOf rows id = cond (ltb (find rows id) 64) (rowAt rows (find rows id)) (claimed id)
+rowOf rows id = cond (ltb (find rows id) rowCount) (rowAt rows (find rows id)) (claimed id)
 
 -- a chunk to a decoder between chunks
 module _ (d : ChunkDeserializer) (c : Chunk) where
@@ -72,7 +72,7 @@ module _ (d : ChunkDeserializer) (c : Chunk) where
 
   -- what is refused at the end of the basic header, and at the end of the header
   abbrev pub basicRefused : ℕ
-  basicRefused = basicRefusal (formatFor (c .header)) (ltb (find (d .rows) (c .id)) 64) (ltb (free (d .rows)) 64) inside (eqb (d .reader .message .id) (c .id))
+  basicRefused = basicRefusal (formatFor (c .header)) (ltb (find (d .rows) (c .id)) rowCount) (ltb (free (d .rows)) rowCount) inside (eqb (d .reader .message .id) (c .id))
 
   abbrev pub headerRefused : ℕ
   headerRefused =

@@ -16,7 +16,7 @@ use Rattle.chunk_meaning.specs.declared.Row.{Row}
 use Rattle.deserializer.specs.Call.{run}
 use Rattle.byte_machine.specs.Reader.{current, reader, unfinished}
 use Rattle.chunk_header.specs.Limits.{maxField}
-use Rattle.byte_machine.specs.Rows.{find, putRow, rowAt}
+use Rattle.byte_machine.specs.Rows.{find, putRow, rowAt, rowCount}
 use Rattle.deserializer.specs.Turn.{follows, whole}
 
 -- a decoder between two chunks of a message of type 3 chunks without extended time, whose row is at a place
@@ -26,7 +26,7 @@ pub record Amid (d : ChunkDeserializer) (place : ℕ) (row : Row) : Type 0 where
   pub least : 2 ≤ row .id
   pub most : row .id ≤ 63
   pub place-is : find (d .rows) (row .id) ≡ place
-  pub found : place < 64
+  pub found : place < rowCount
   pub held : rowAt (d .rows) place ≡ row
   pub plain : row .«timestamp_field» ≢ maxField
   pub fits : row .«message_length» ≤ d .room

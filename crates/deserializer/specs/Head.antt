@@ -24,7 +24,7 @@ use Rattle.byte_machine.specs.Header.{opens}
 use Rattle.byte_machine.specs.Reader.{current, reader}
 use Rattle.chunk_meaning.specs.Meaning.{firstRefusal, firstTime, laterRefusal}
 use Rattle.chunk_meaning.specs.Stored.{timed}
-use Rattle.byte_machine.specs.Rows.{find}
+use Rattle.byte_machine.specs.Rows.{find, rowCount}
 use Rattle.deserializer.specs.Turn.{follows}
 
 -- the header after a basic header of one byte
@@ -61,4 +61,4 @@ pub record Known (c : Core) (rows input : List ℕ) (format : ChunkHeaderFormat)
   pub id : 2 ≤ getD input 0 0 % 64
   pub long : 1 + headerLength (typeOf format) ≤ length input
   pub place-is : place ≡ find rows (getD input 0 0 % 64)
-  pub found : place < 64
+  pub found : place < rowCount

@@ -1,6 +1,6 @@
 -- Making a decoder, and telling it a chunk size (document 01, refusals 6, 3, 4 and 8).
-use Prim.Native.Nat.{ℕ}
-use mathlib.Core.Bool.{Bool, true, false, not, _&&_, _||_}
+use Prim.Native.Nat.{ℕ, _*_}
+use mathlib.Core.Bool.{Bool, not, _&&_, _||_}
 use mathlib.Core.List.{[], _∷_}
 use lib.Dec.{ltb, eqb}
 use lib.ListN.{replicate}
@@ -12,9 +12,9 @@ use Rattle.deserializer.specs.declared.Telling.{Telling}
 use Rattle.deserializer.specs.declared.Telling.the-variants.{Taken, Refused}
 use Rattle.deserializer.specs.declared.Told.{Told}
 use Rattle.byte_machine.specs.declared.reader.Reader.{Reader}
-use Rattle.byte_machine.specs.declared.reader.Stage.{Stage}
-use Rattle.byte_machine.specs.declared.reader.Stage.the-variants.{Csid, CsidSecond, CsidThird, InitialTimestamp, MessageLength, MessageTypeId, MessageStreamId, ExtendedTimestamp, MessagePayload}
-use Rattle.byte_machine.specs.Reader.{current, reader, unfinished}
+use Rattle.byte_machine.specs.declared.reader.Stage.the-variants.{Csid}
+use Rattle.byte_machine.specs.Reader.{atStart, current, nowhere, reader, unfinished}
+use Rattle.byte_machine.specs.Rows.{rowCount, rowLength}
 use Rattle.chunk_meaning.specs.Stored.{claimed}
 
 -- each answer's number, as document 01 lists it
@@ -44,18 +44,6 @@ unsized d n = record { deserializer = d; telling = Refused n }
 abbrev pub maxRoom : ℕ
 maxRoom = maxLength
 
--- before the first byte of a chunk
-abbrev pub atStart : Stage → Bool
-atStart Csid = true
-atStart (CsidSecond a) = false
-atStart (CsidThird a b) = false
-atStart (InitialTimestamp before lacks) = false
-atStart (MessageLength before lacks) = false
-atStart MessageTypeId = false
-atStart (MessageStreamId before lacks) = false
-atStart (ExtendedTimestamp before lacks) = false
-atStart MessagePayload = false
-
 -- no byte of a message has come that has not ended
 abbrev pub between : Reader → Bool
 between r = atStart (r .stage) && eqb (r .message .id) 0
@@ -78,8 +66,8 @@ fresh room closed = record {
   room = room;
   «max_chunk_size» = initialSize;
   closed = closed;
-  reader = reader Csid (current Full 64 (claimed 0) (claimed 0) 0) (unfinished 0 0);
-  rows = replicate 384 0;
+  reader = reader Csid (current Full nowhere (claimed 0) (claimed 0) 0) (unfinished 0 0);
+  rows = replicate (rowCount * rowLength) 0;
 }
 
 -- a room of 0 or over 16777215 makes a decoder closed with 6

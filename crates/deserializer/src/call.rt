@@ -11,6 +11,7 @@ use crate::further::further;
 use crate::head::head;
 use crate::payload::landed;
 use byte_machine::Event;
+use byte_machine::GUARD;
 use byte_machine::ROWS;
 use byte_machine::Reader;
 use byte_machine::Stepped;
@@ -156,7 +157,7 @@ fn once(core: Core, rows: &mut [u32; 384], input: &[u8], at: usize, payload: &mu
         if pays(core.room, reader) {
             return stretch(core, rows, input, at, payload);
         }
-        return keep(core, rows, refuse(reader, 255), at + 1);
+        return keep(core, rows, refuse(reader, GUARD), at + 1);
     }
     by_header(core, rows, input, at)
 }
