@@ -29,6 +29,10 @@ at r stage = reader stage (r .chunk) (r .message)
 abbrev pub headed : Reader → Row → Reader
 headed r h = reader (r .stage) (current (r .chunk .format) (r .chunk .place) (r .chunk .before) h (r .chunk .left)) (r .message)
 
+-- the reader at a chunk of a stream's row, with the header as far as it is read
+abbrev pub reading : Reader → ChunkHeaderFormat → ℕ → Row → Row → Reader
+reading r format place row header = reader (r .stage) (current format place row header 0) (r .message)
+
 -- before the first byte of a chunk
 abbrev pub atStart : Stage → Bool
 atStart Csid = true

@@ -19,19 +19,15 @@ use Rattle.byte_machine.specs.declared.reader.Stage.{Stage}
 use Rattle.byte_machine.specs.declared.reader.Stage.the-variants.{Csid as AtCsid, CsidSecond, CsidThird, InitialTimestamp, MessageLength, MessageTypeId, MessageStreamId, ExtendedTimestamp, MessagePayload}
 use Rattle.byte_machine.specs.declared.reader.Stepped.{Stepped}
 use Rattle.byte_machine.specs.Header.{extendedNext, lengthNext, streamNext, timestampNext, typeNext, whole}
-use Rattle.byte_machine.specs.Reader.{at, current, go, guard, headed, reader, refuse}
+use Rattle.byte_machine.specs.Reader.{at, go, guard, headed, reading, refuse}
 use Rattle.byte_machine.specs.Rows.{find, free, rowAt, rowCount}
 
 -- a chunk of a stream that has a row, and one that claims a free row: a type 0, whose first field is the time of three bytes
 abbrev pub known : ℕ → ℕ → Reader → ChunkHeaderFormat → Row → ℕ → Stepped
-known room size r format row place = timestampNext room size (reader (r .stage) (current format place row row 0) (r .message))
+known room size r format row place = timestampNext room size (reading r format place row row)
 
 abbrev pub claims : Reader → ChunkHeaderFormat → ℕ → ℕ → Stepped
-claims r format id place = record {
-  reader = reader (InitialTimestamp 0 3) (current format place (claimed id) (claimed id) 0) (r .message);
-  event = Go;
-  place = place;
-}
+claims r format id place = record { reader = at (reading r format place (claimed id) (claimed id)) (InitialTimestamp 0 3); event = Go; place = place }
 
 -- the last byte of a basic header
 unfoldable pub named : ℕ → ℕ → List ℕ → Reader → ChunkHeaderFormat → ℕ → Stepped

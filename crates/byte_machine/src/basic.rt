@@ -6,8 +6,8 @@ ghost use Rattle.byte_machine.specs.Step.{basic as Machine·basic, claim
 use crate::header::timestamp_next;
 use crate::parts::at;
 use crate::parts::go;
+use crate::parts::reading;
 use crate::parts::refuse;
-use crate::reader::Current;
 use crate::reader::Event;
 use crate::reader::Reader;
 use crate::reader::Stage;
@@ -34,23 +34,7 @@ fn known(
 ) -> Stepped
     ensures { λ r. ⌜ r ≡ Machine·known room size reader format row place ⌝ }
 {
-    let stage = reader.stage;
-    let message = reader.message;
-    timestamp_next(
-        room,
-        size,
-        Reader {
-            stage: stage,
-            chunk: Current {
-                format: format,
-                place: place,
-                before: row,
-                header: row,
-                left: 0,
-            },
-            message: message,
-        },
-    )
+    timestamp_next(room, size, reading(reader, format, place, row, row))
 }
 
 // A chunk of a stream that claims a free row.
@@ -58,19 +42,9 @@ fn claims(reader: Reader, format: ChunkHeaderFormat, id: u32, place: usize) -> S
     ensures { λ r. ⌜ r ≡ Machine·claims reader format id place ⌝ }
 {
     let row = claimed(id);
-    let message = reader.message;
+    let reader = reading(reader, format, place, row, row);
     Stepped {
-        reader: Reader {
-            stage: Stage::InitialTimestamp(0, 3),
-            chunk: Current {
-                format: format,
-                place: place,
-                before: row,
-                header: row,
-                left: 0,
-            },
-            message: message,
-        },
+        reader: at(reader, Stage::InitialTimestamp(0, 3)),
         event: Event::Go,
         place: place,
     }

@@ -17,6 +17,7 @@ pub use crate::numbers::wide;
 pub use crate::parts::ended;
 pub use crate::parts::go;
 pub use crate::parts::paused;
+pub use crate::parts::reading;
 pub use crate::parts::refuse;
 pub use crate::payload::pays;
 pub use crate::reader::Current;

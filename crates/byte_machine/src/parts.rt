@@ -1,6 +1,6 @@
 // Readers and steps with one of their parts replaced.
 ghost use mathlib.Core.Path.{_≡_};
-ghost use Rattle.byte_machine.specs.Reader.{at as Machine·at, ended as Machine·ended, go as Machine·go, headed as Machine·headed, paused as Machine·paused, refuse as Machine·refuse};
+ghost use Rattle.byte_machine.specs.Reader.{at as Machine·at, ended as Machine·ended, go as Machine·go, headed as Machine·headed, paused as Machine·paused, reading as Machine·reading, refuse as Machine·refuse};
 use crate::reader::Current;
 use crate::reader::Event;
 use crate::reader::Reader;
@@ -8,6 +8,7 @@ use crate::reader::Stage;
 use crate::reader::Stepped;
 use crate::reader::Unfinished;
 use crate::rows::ROWS;
+use chunk_header::ChunkHeaderFormat;
 use chunk_meaning::Row;
 
 // The reader at another stage.
@@ -19,6 +20,31 @@ pub fn at(reader: Reader, stage: Stage) -> Reader
     Reader {
         stage: stage,
         chunk: chunk,
+        message: message,
+    }
+}
+
+// The reader at a chunk of a stream's row, with the header as far as it is read.
+pub fn reading(
+    reader: Reader,
+    format: ChunkHeaderFormat,
+    place: usize,
+    row: Row,
+    header: Row,
+) -> Reader
+    ensures { λ r. ⌜ r ≡ Machine·reading reader format place row header ⌝ }
+{
+    let stage = reader.stage;
+    let message = reader.message;
+    Reader {
+        stage: stage,
+        chunk: Current {
+            format: format,
+            place: place,
+            before: row,
+            header: header,
+            left: 0,
+        },
         message: message,
     }
 }

@@ -21,7 +21,7 @@ use Rattle.chunk_meaning.specs.declared.Row.{Row}
 use Rattle.deserializer.specs.Call.{after, run}
 use Rattle.byte_machine.specs.Step.{swapped}
 use Rattle.byte_machine.specs.Header.{opens}
-use Rattle.byte_machine.specs.Reader.{current, reader}
+use Rattle.byte_machine.specs.Reader.{reading}
 use Rattle.chunk_meaning.specs.Meaning.{firstRefusal, firstTime, laterRefusal}
 use Rattle.chunk_meaning.specs.Stored.{timed}
 use Rattle.byte_machine.specs.Rows.{find, rowCount}
@@ -44,7 +44,7 @@ abbrev pub settledBy : ℕ → ChunkHeaderFormat → ℕ → Row → Row → Rea
 settledBy size format place row header r =
     let first = eqb (r .message .id) 0 in
     let time = cond first (firstTime format (row .timestamp .value) (header .«timestamp_field»)) (row .timestamp .value) in
-    opens size (reader (r .stage) (current format place row (timed header time) 0) (r .message)) (cond first 0 (r .message .got))
+    opens size (reading r format place row (timed header time)) (cond first 0 (r .message .got))
 
 -- a turn over some first bytes of the input does what those bytes do one by one
 pub record Heads (d : ChunkDeserializer) (input : List ℕ) (t : Taken) : Type 0 where

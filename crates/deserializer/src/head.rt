@@ -13,7 +13,6 @@ ghost use Rattle.byte_machine.specs.Reader.{current, inPayload, reader as Machi
 ghost use Rattle.byte_machine.specs.declared.reader.Stage.the-variants.{Csid};
 ghost use Rattle.deserializer.specs.Turn.{whole};
 use crate::call::Core;
-use byte_machine::Current;
 use byte_machine::ROWS;
 use byte_machine::Reader;
 use byte_machine::Stage;
@@ -21,6 +20,7 @@ use byte_machine::Stepped;
 use byte_machine::Unfinished;
 use byte_machine::find;
 use byte_machine::opens;
+use byte_machine::reading;
 use byte_machine::row_or_empty;
 use byte_machine::step;
 use chunk_header::ChunkHeaderFormat;
@@ -110,25 +110,6 @@ fn refusal_of(
     later_refusal(format, row, header, header.timestamp_field)
 }
 
-// The reader of a chunk whose header is read.
-fn reading(format: ChunkHeaderFormat, place: usize, row: Row, header: Row, reader: Reader) -> Reader
-    ensures { λ r. ⌜ r ≡ Machine·reader (reader .stage) (current format place row header 0) (reader .message) ⌝ }
-{
-    let stage = reader.stage;
-    let message = reader.message;
-    Reader {
-        stage: stage,
-        chunk: Current {
-            format: format,
-            place: place,
-            before: row,
-            header: header,
-            left: 0,
-        },
-        message: message,
-    }
-}
-
 // The chunk opened, up to its payload.
 fn settled(
     size: u32,
@@ -142,10 +123,10 @@ fn settled(
 {
     if reader.message.id == 0 {
         let timestamp = first_time(format, row.timestamp, header.timestamp_field);
-        let first = reading(format, place, row, timed(header, timestamp), reader);
+        let first = reading(reader, format, place, row, timed(header, timestamp));
         return opens(size, first, 0);
     }
-    let later = reading(format, place, row, timed(header, row.timestamp), reader);
+    let later = reading(reader, format, place, row, timed(header, row.timestamp));
     opens(size, later, reader.message.got)
 }
 
