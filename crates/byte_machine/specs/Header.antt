@@ -15,14 +15,14 @@ use Rattle.byte_machine.specs.declared.reader.Stepped.{Stepped}
 use Rattle.byte_machine.specs.Reader.{at, current, ended, go, headed, reader, refuse, unfinished}
 
 -- the payload of a chunk: "the smaller of the chunk size and what the message still lacks". A message of no bytes ends here
-unfoldable pub opens : ℕ → Reader → ℕ → Stepped
+unfoldable pub opens : (size : ℕ) → Reader → (got : ℕ) → Stepped
 opens size r got =
     let c = r .chunk in
     cond (eqb (c .header .«message_length») 0) (ended r)
     (go (reader MessagePayload (current (c .format) (c .place) (c .before) (c .header) (min size (c .header .«message_length» - got))) (unfinished (r .message .id) got)))
 
 -- a header that is whole, extended time included, with the number that it says of the time
-unfoldable pub whole : ℕ → ℕ → Reader → ℕ → Stepped
+unfoldable pub whole : (room size : ℕ) → Reader → (time : ℕ) → Stepped
 whole room size r time =
     let c = r .chunk in
     let k = firstRefusal (c .format) (c .header) time room in
@@ -36,7 +36,7 @@ abbrev pub lacks : Reader → HeaderField → ℕ
 lacks r field = fieldLength (typeOf (r .chunk .format)) (indexOf field)
 
 -- the stage that gathers a field of so many bytes
-abbrev pub stageOf : HeaderField → ℕ → Stage
+abbrev pub stageOf : HeaderField → (lacks : ℕ) → Stage
 stageOf Timestamp n = InitialTimestamp 0 n
 stageOf Length n = MessageLength 0 n
 stageOf TypeId n = MessageTypeId
@@ -47,18 +47,18 @@ abbrev pub fieldNext : Reader → HeaderField → Stepped → Stepped
 fieldNext r field after = cond (eqb (lacks r field) 0) after (go (at r (stageOf field (lacks r field))))
 
 -- the extended time, "a time field of 16777215 means that a 4-byte extended time follows the header"
-unfoldable pub extendedNext : ℕ → ℕ → Reader → Stepped
+unfoldable pub extendedNext : (room size : ℕ) → Reader → Stepped
 extendedNext room size r =
     cond (eqb (r .chunk .header .«timestamp_field») maxField) (go (at r (ExtendedTimestamp 0 4))) (whole room size r (r .chunk .header .«timestamp_field»))
 
-unfoldable pub streamNext : ℕ → ℕ → Reader → Stepped
+unfoldable pub streamNext : (room size : ℕ) → Reader → Stepped
 streamNext room size r = fieldNext r StreamId (extendedNext room size r)
 
-unfoldable pub typeNext : ℕ → ℕ → Reader → Stepped
+unfoldable pub typeNext : (room size : ℕ) → Reader → Stepped
 typeNext room size r = fieldNext r TypeId (streamNext room size r)
 
-unfoldable pub lengthNext : ℕ → ℕ → Reader → Stepped
+unfoldable pub lengthNext : (room size : ℕ) → Reader → Stepped
 lengthNext room size r = fieldNext r Length (typeNext room size r)
 
-unfoldable pub timestampNext : ℕ → ℕ → Reader → Stepped
+unfoldable pub timestampNext : (room size : ℕ) → Reader → Stepped
 timestampNext room size r = fieldNext r Timestamp (lengthNext room size r)

@@ -7,11 +7,11 @@ use Rattle.byte_machine.specs.declared.reader.Stepped.{Stepped}
 use Rattle.byte_machine.specs.Reader.{current, ended, go, paused, reader, unfinished}
 
 -- a reader in a payload lacks a byte at least, and its chunk ends within the room; no call makes another one
-unfoldable pub pays : ℕ → Reader → Bool
+unfoldable pub pays : (room : ℕ) → Reader → Bool
 pays room r = not (eqb (r .chunk .left) 0) && leb (r .message .got + r .chunk .left) room
 
 -- so many bytes of the message, and so many that the chunk lacks
-abbrev pub paid : Reader → ℕ → ℕ → Reader
+abbrev pub paid : Reader → (got left : ℕ) → Reader
 paid r got left =
     let c = r .chunk in
     reader (r .stage) (current (c .format) (c .place) (c .before) (c .header) left) (unfinished (r .message .id) got)
@@ -24,5 +24,5 @@ settle r =
     (go r)
 
 -- after n bytes of payload
-unfoldable pub landed : Reader → ℕ → Stepped
+unfoldable pub landed : Reader → (n : ℕ) → Stepped
 landed r n = settle (paid r (r .message .got + n) (r .chunk .left - n))

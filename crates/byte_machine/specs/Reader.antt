@@ -16,10 +16,10 @@ use Rattle.byte_machine.specs.Rows.{rowCount}
 abbrev pub reader : Stage → Current → Unfinished → Reader
 reader stage chunk message = record { stage = stage; chunk = chunk; message = message }
 
-abbrev pub current : ChunkHeaderFormat → ℕ → Row → Row → ℕ → Current
+abbrev pub current : ChunkHeaderFormat → (place : ℕ) → (before header : Row) → (left : ℕ) → Current
 current format place before header left = record { format = format; place = place; before = before; header = header; left = left }
 
-abbrev pub unfinished : ℕ → ℕ → Unfinished
+abbrev pub unfinished : (id got : ℕ) → Unfinished
 unfinished id got = record { id = id; got = got }
 
 -- the reader at another stage; with another header
@@ -30,7 +30,7 @@ abbrev pub headed : Reader → Row → Reader
 headed r h = reader (r .stage) (current (r .chunk .format) (r .chunk .place) (r .chunk .before) h (r .chunk .left)) (r .message)
 
 -- the reader at a chunk of a stream's row, with the header as far as it is read
-abbrev pub reading : Reader → ChunkHeaderFormat → ℕ → Row → Row → Reader
+abbrev pub reading : Reader → ChunkHeaderFormat → (place : ℕ) → (row header : Row) → Reader
 reading r format place row header = reader (r .stage) (current format place row header 0) (r .message)
 
 -- before the first byte of a chunk
@@ -65,7 +65,7 @@ nowhere = rowCount
 abbrev pub go : Reader → Stepped
 go r = record { reader = r; event = Go; place = nowhere }
 
-abbrev pub refuse : Reader → ℕ → Stepped
+abbrev pub refuse : Reader → (number : ℕ) → Stepped
 refuse r n = record { reader = r; event = Refuse n; place = nowhere }
 
 -- what is answered where a guard finds a reader that no call makes: no number of document 01
@@ -76,5 +76,5 @@ guard = 255
 abbrev pub ended : Reader → Stepped
 ended r = record { reader = reader Csid (r .chunk) (unfinished 0 0); event = Message; place = r .chunk .place }
 
-abbrev pub paused : Reader → ℕ → Stepped
+abbrev pub paused : Reader → (got : ℕ) → Stepped
 paused r got = record { reader = reader Csid (r .chunk) (unfinished (r .chunk .header .id) got); event = Chunk; place = r .chunk .place }

@@ -18,7 +18,7 @@ rowLength = 6
 abbrev pub start : ℕ → ℕ
 start i = rowLength * i
 
-abbrev pub rowAt : List ℕ → ℕ → Row
+abbrev pub rowAt : (rows : List ℕ) → (i : ℕ) → Row
 rowAt rows i =
     row (getD rows (start i) 0) (getD rows (start i + 1) 0) (getD rows (start i + 2) 0) (getD rows (start i + 3) 0) (getD rows (start i + 4) 0 % 256)
     (getD rows (start i + 5) 0)
@@ -26,19 +26,19 @@ rowAt rows i =
 abbrev pub numbers : Row → List ℕ
 numbers r = r .id ∷ r .timestamp .value ∷ r .«timestamp_field» ∷ r .«message_length» ∷ r .«message_type_id» ∷ r .«message_stream_id» ∷ []
 
-unfoldable pub putRow : List ℕ → ℕ → Row → List ℕ
+unfoldable pub putRow : (rows : List ℕ) → (i : ℕ) → Row → List ℕ
 putRow rows i r = sets rows (start i) (numbers r)
 
 -- a row put at a place, where the table has one
-abbrev pub putAt : List ℕ → ℕ → Row → List ℕ
+abbrev pub putAt : (rows : List ℕ) → (place : ℕ) → Row → List ℕ
 putAt rows place r = cond (ltb place rowCount) (putRow rows place r) rows
 
 -- of n rows from i on, the first of that id; 64 where there is none
-unfoldable pub seek : ℕ → ℕ → List ℕ → ℕ → ℕ
+unfoldable pub seek : (n i : ℕ) → (rows : List ℕ) → (id : ℕ) → ℕ
 seek zero i rows id = rowCount
 seek (suc n) i rows id = cond (eqb (getD rows (start i) 0) id) i (seek n (suc i) rows id)
 
-abbrev pub find : List ℕ → ℕ → ℕ
+abbrev pub find : (rows : List ℕ) → (id : ℕ) → ℕ
 find rows id = seek rowCount 0 rows id
 
 -- the first free row; 64 where all are used
@@ -46,5 +46,5 @@ abbrev pub free : List ℕ → ℕ
 free rows = find rows 0
 
 -- the row at a place; an empty one where the table has none there
-abbrev pub rowOrEmpty : List ℕ → ℕ → Row
+abbrev pub rowOrEmpty : (rows : List ℕ) → (place : ℕ) → Row
 rowOrEmpty rows place = cond (ltb place rowCount) (rowAt rows place) (claimed 0)

@@ -23,14 +23,14 @@ use Rattle.byte_machine.specs.Reader.{at, go, guard, headed, reading, re
 use Rattle.byte_machine.specs.Rows.{find, free, rowAt, rowCount}
 
 -- a chunk of a stream that has a row, and one that claims a free row: a type 0, whose first field is the time of three bytes
-abbrev pub known : ℕ → ℕ → Reader → ChunkHeaderFormat → Row → ℕ → Stepped
+abbrev pub known : (room size : ℕ) → Reader → ChunkHeaderFormat → Row → (place : ℕ) → Stepped
 known room size r format row place = timestampNext room size (reading r format place row row)
 
-abbrev pub claims : Reader → ChunkHeaderFormat → ℕ → ℕ → Stepped
+abbrev pub claims : Reader → ChunkHeaderFormat → (id place : ℕ) → Stepped
 claims r format id place = record { reader = at (reading r format place (claimed id) (claimed id)) (InitialTimestamp 0 3); event = Go; place = place }
 
 -- the last byte of a basic header
-unfoldable pub named : ℕ → ℕ → List ℕ → Reader → ChunkHeaderFormat → ℕ → Stepped
+unfoldable pub named : (room size : ℕ) → (rows : List ℕ) → Reader → ChunkHeaderFormat → (id : ℕ) → Stepped
 named room size rows r format id =
     let place = find rows id in
     let k = basicRefusal format (ltb place rowCount) (ltb (free rows) rowCount) (not (eqb (r .message .id) 0)) (eqb (r .message .id) id) in
@@ -39,15 +39,15 @@ named room size rows r format id =
     (refuse r k)
 
 -- a basic header so far: an id, or kept until more of it has come
-abbrev pub basicBy : Csid → ℕ → ℕ → List ℕ → Reader → ChunkHeaderFormat → Stage → Stepped
+abbrev pub basicBy : Csid → (room size : ℕ) → (rows : List ℕ) → Reader → ChunkHeaderFormat → (kept : Stage) → Stepped
 basicBy (Id id) room size rows r format kept = named room size rows r format id
 basicBy Incomplete room size rows r format kept = go (at r kept)
 
-abbrev pub basic : ℕ → ℕ → List ℕ → Reader → List ℕ → Stage → Stepped
+abbrev pub basic : (room size : ℕ) → (rows : List ℕ) → Reader → (bytes : List ℕ) → (kept : Stage) → Stepped
 basic room size rows r bytes kept = basicBy (csid bytes) room size rows r (formatOf (getD bytes 0 0)) kept
 
 -- one byte more of a number of four bytes at most
-abbrev pub gathered : ℕ → ℕ → ℕ
+abbrev pub gathered : (before byte : ℕ) → ℕ
 gathered before byte = before % 2 ^ 24 * 256 + byte
 
 -- a byte of a field of several: the number is whole with it, or kept with one byte fewer to come
@@ -56,30 +56,30 @@ fieldByte before lacks byte whole kept =
     let number = gathered before byte in
     cond (leb lacks 1) (whole number) (go (kept number (lacks - 1)))
 
-unfoldable pub timestampField : ℕ → ℕ → Reader → ℕ → ℕ → ℕ → Stepped
+unfoldable pub timestampField : (room size : ℕ) → Reader → (before lacks byte : ℕ) → Stepped
 timestampField room size r before lacks b =
     fieldByte before lacks b (λ n. lengthNext room size (headed r (fielded (r .chunk .header) n))) (λ n left. at r (InitialTimestamp n left))
 
-unfoldable pub lengthField : ℕ → ℕ → Reader → ℕ → ℕ → ℕ → Stepped
+unfoldable pub lengthField : (room size : ℕ) → Reader → (before lacks byte : ℕ) → Stepped
 lengthField room size r before lacks b =
     fieldByte before lacks b (λ n. typeNext room size (headed r (lengthed (r .chunk .header) n))) (λ n left. at r (MessageLength n left))
 
-unfoldable pub typeField : ℕ → ℕ → Reader → ℕ → Stepped
+unfoldable pub typeField : (room size : ℕ) → Reader → (byte : ℕ) → Stepped
 typeField room size r b = streamNext room size (headed r (typed (r .chunk .header) b))
 
 -- the one field that is little-endian: the number of the same four bytes in the other order
 abbrev pub swapped : ℕ → ℕ
 swapped n = number (littleEndian 4 n)
 
-unfoldable pub streamField : ℕ → ℕ → Reader → ℕ → ℕ → ℕ → Stepped
+unfoldable pub streamField : (room size : ℕ) → Reader → (before lacks byte : ℕ) → Stepped
 streamField room size r before lacks b =
     fieldByte before lacks b (λ n. extendedNext room size (headed r (streamed (r .chunk .header) (swapped n)))) (λ n left. at r (MessageStreamId n left))
 
-unfoldable pub extendedField : ℕ → ℕ → Reader → ℕ → ℕ → ℕ → Stepped
+unfoldable pub extendedField : (room size : ℕ) → Reader → (before lacks byte : ℕ) → Stepped
 extendedField room size r before lacks b = fieldByte before lacks b (λ n. whole room size r n) (λ n left. at r (ExtendedTimestamp n left))
 
 -- a byte of a header, by the field that it belongs to; a byte of a payload never comes here
-abbrev pub stepped : Stage → ℕ → ℕ → List ℕ → Reader → ℕ → Stepped
+abbrev pub stepped : Stage → (room size : ℕ) → (rows : List ℕ) → Reader → (byte : ℕ) → Stepped
 stepped AtCsid room size rows r b = basic room size rows r (b ∷ []) (CsidSecond b)
 stepped (CsidSecond a) room size rows r b = basic room size rows r (a ∷ b ∷ []) (CsidThird a b)
 stepped (CsidThird a c) room size rows r b = basic room size rows r (a ∷ c ∷ b ∷ []) (CsidThird a c)

@@ -11,7 +11,7 @@ use Rattle.chunk_header.specs.Table.{isEmpty, isFull}
 use Rattle.chunk_meaning.specs.declared.Row.{Row}
 
 -- "type 0 sets the time. Other types add the delta once, at the first chunk of a message"
-abbrev pub firstTime : ChunkHeaderFormat → ℕ → ℕ → ℕ
+abbrev pub firstTime : ChunkHeaderFormat → (before number : ℕ) → ℕ
 firstTime format before number = cond (isFull format) number (sum before number)
 
 -- what is refused at the last byte of a basic header. `has-row`: the stream has a row; `free`: a row is free;
@@ -25,7 +25,7 @@ basicRefusal format has-row free inside own =
     ∷ []) 0
 
 -- the header of a chunk repeats the header of the message
-abbrev pub repeats : Row → Row → ℕ → Bool
+abbrev pub repeats : (message header : Row) → (time : ℕ) → Bool
 repeats message header time =
     eqb (header .«message_length») (message .«message_length»)
     && (eqb (header .«message_type_id») (message .«message_type_id»)
@@ -33,11 +33,11 @@ repeats message header time =
     && eqb time (message .timestamp .value)))
 
 -- what is refused at the last byte of a header, extended time included: inside a message ..
-unfoldable pub laterRefusal : ChunkHeaderFormat → Row → Row → ℕ → ℕ
+unfoldable pub laterRefusal : ChunkHeaderFormat → (message header : Row) → (number : ℕ) → ℕ
 laterRefusal format message header number = first (12 when (isFull format && not (repeats message header number)) ∷ []) 0
 
 -- .. and at a first chunk
-unfoldable pub firstRefusal : ChunkHeaderFormat → Row → ℕ → ℕ → ℕ
+unfoldable pub firstRefusal : ChunkHeaderFormat → (header : Row) → (number room : ℕ) → ℕ
 firstRefusal format header number room =
     first (13 when (not (isFull format) && (eqb (header .«timestamp_field») maxField && ltb number maxField))
     ∷ 14 when ltb room (header .«message_length»)

@@ -17,13 +17,13 @@ use Rattle.byte_machine.specs.Reader.{guard, inPayload, refuse}
 use Rattle.byte_machine.specs.Rows.{putAt}
 
 -- what a byte does: a byte of a payload that may come is stored at its own place
-unfoldable pub stepOf : ChunkDeserializer → ℕ → Stepped
+unfoldable pub stepOf : ChunkDeserializer → (byte : ℕ) → Stepped
 stepOf d b =
     cond (inPayload (d .reader .stage))
     (cond (pays (d .room) (d .reader)) (landed (d .reader) 1) (refuse (d .reader) guard))
     (stepped (d .reader .stage) (d .room) (d .«max_chunk_size») (d .rows) (d .reader) b)
 
-unfoldable pub writes : ChunkDeserializer → List ℕ → ℕ → List ℕ
+unfoldable pub writes : ChunkDeserializer → (payload : List ℕ) → (byte : ℕ) → List ℕ
 writes d payload b = cond (inPayload (d .reader .stage)) (cond (pays (d .room) (d .reader)) (set payload (d .reader .message .got) b) payload) payload
 
 -- a refusal closes the decoder with its own number
@@ -56,30 +56,30 @@ pub record Outcome : Type 0 where
   pub deserializer : ChunkDeserializer
   pub payload : List ℕ
 
-abbrev pub outcome : Listed → ChunkDeserializer → List ℕ → Outcome
+abbrev pub outcome : Listed → ChunkDeserializer → (payload : List ℕ) → Outcome
 outcome answer d payload = record { answer = answer; deserializer = d; payload = payload }
 
 -- a message, as it was read, at its last byte
-abbrev pub read : Reader → ℕ → Listed
+abbrev pub read : Reader → (used : ℕ) → Listed
 read r used =
     let h = r .chunk .header in
     message (h .«message_type_id») (h .«message_stream_id») (h .timestamp .value) (h .«message_length») used
 
 -- after a byte: an answer, or what follows
-abbrev pub end : Event → ChunkDeserializer → List ℕ → ℕ → Outcome → Outcome
+abbrev pub end : Event → ChunkDeserializer → (payload : List ℕ) → (used : ℕ) → (rest : Outcome) → Outcome
 end Go d payload used rest = rest
 end Chunk d payload used rest = rest
 end Message d payload used rest = outcome (read (d .reader) used) d payload
 end (Refuse k) d payload used rest = outcome (refused k used) d payload
 
-unfoldable pub run : List ℕ → ChunkDeserializer → List ℕ → ℕ → Outcome
+unfoldable pub run : (input : List ℕ) → ChunkDeserializer → (payload : List ℕ) → (used : ℕ) → Outcome
 run [] d payload used = outcome (more used) d payload
 run (b ∷ bs) d payload used =
     end (stepOf d b .event) (after d (stepOf d b)) (writes d payload b) (used + 1)
     (run bs (after d (stepOf d b)) (writes d payload b) (used + 1))
 
 -- "closed, 7, then by bytes"
-unfoldable pub next : ChunkDeserializer → List ℕ → List ℕ → Outcome
+unfoldable pub next : ChunkDeserializer → (input payload : List ℕ) → Outcome
 next d input payload =
     first (outcome (refused (d .closed) 0) d payload when not (eqb (d .closed) 0)
     ∷ outcome (refused 7 0) d payload when ltb (length payload) (d .room)

@@ -53,10 +53,10 @@ FormFits two id = (64 ≤ id) × (id ≤ 319)
 FormFits three id = (64 ≤ id) × (id ≤ 65599)
 
 -- the place of a stream's row, and that row: its own, or the first free one, just claimed
-abbrev pub placeOf : List ℕ → ℕ → ℕ
+abbrev pub placeOf : (rows : List ℕ) → (id : ℕ) → ℕ
 placeOf rows id = cond (ltb (find rows id) rowCount) (find rows id) (free rows)
 
-abbrev pub rowOf : List ℕ → ℕ → Row
+abbrev pub rowOf : (rows : List ℕ) → (id : ℕ) → Row
 rowOf rows id = cond (ltb (find rows id) rowCount) (rowAt rows (find rows id)) (claimed id)
 
 -- a chunk to a decoder between chunks

@@ -37,7 +37,7 @@ outcomeOf r = record { answer = sizeOf (r .telling); deserializer = r .deseriali
 abbrev pub outcome : Size → ChunkDeserializer → Outcome
 outcome answer d = record { answer = answer; deserializer = d }
 
-abbrev pub unsized : ChunkDeserializer → ℕ → Told
+abbrev pub unsized : ChunkDeserializer → (number : ℕ) → Told
 unsized d n = record { deserializer = d; telling = Refused n }
 
 -- the largest room: no message is longer
@@ -48,11 +48,11 @@ maxRoom = maxLength
 abbrev pub between : Reader → Bool
 between r = atStart (r .stage) && eqb (r .message .id) 0
 
-abbrev pub sized : ChunkDeserializer → ℕ → ChunkDeserializer
+abbrev pub sized : ChunkDeserializer → (size : ℕ) → ChunkDeserializer
 sized d size = record { room = d .room; «max_chunk_size» = size; closed = d .closed; reader = d .reader; rows = d .rows }
 
 -- "closed, 3, 4, 8"
-unfoldable pub told : ChunkDeserializer → ℕ → Outcome
+unfoldable pub told : ChunkDeserializer → (size : ℕ) → Outcome
 told d size =
     first (outcome (refused (d .closed)) d when not (eqb (d .closed) 0)
     ∷ outcome (refused 3) d when eqb size 0
@@ -61,7 +61,7 @@ told d size =
     ∷ []) (outcome taken (sized d size))
 
 -- a decoder to which nothing has come: no row is used
-abbrev pub fresh : ℕ → ℕ → ChunkDeserializer
+abbrev pub fresh : (room closed : ℕ) → ChunkDeserializer
 fresh room closed = record {
   room = room;
   «max_chunk_size» = initialSize;
@@ -71,5 +71,5 @@ fresh room closed = record {
 }
 
 -- a room of 0 or over 16777215 makes a decoder closed with 6
-unfoldable pub made : ℕ → Outcome
+unfoldable pub made : (room : ℕ) → Outcome
 made room = first (outcome (refused 6) (fresh room 6) when (eqb room 0 || ltb maxRoom room) ∷ []) (outcome taken (fresh room 0))
