@@ -136,6 +136,14 @@ find-first rows id j h k = seek-first 64 0 rows id j (omega arith) (omega arith)
 pub find-none : (rows : List ℕ) (id j : ℕ) → 64 ≤ find rows id → j < 64 → getD rows (6 * j) 0 ≢ id
 find-none rows id j h k = find-first rows id j (omega arith) k
 
+-- a row of that id is found
+pub found : (rows : List ℕ) (id p : ℕ) → p < 64 → getD rows (6 * p) 0 ≡ id → find rows id < 64
+found rows id p h e = by-cases (ltb (find rows id) 64) refl
+  where
+    by-cases : (t : Bool) → ltb (find rows id) 64 ≡ t → find rows id < 64
+    by-cases true f = ltb-true _ _ f
+    by-cases false f = absurd (find-none rows id p (ltb-false _ _ f) h e)
+
 -- the first row that has the id is found
 pub find-is : (rows : List ℕ) (id p : ℕ) → p < 64 → getD rows (6 * p) 0 ≡ id → ((j : ℕ) → j < p → getD rows (6 * j) 0 ≢ id) → find rows id ≡ p
 find-is rows id p h e first = by-cases (ltb (find rows id) p) (ltb p (find rows id)) refl refl
@@ -159,6 +167,11 @@ alone-there rows id p d h n e j k m q = m (sym (d p j h k (rw e n) (e ∙ sym q)
 
 pub alone-none : (rows : List ℕ) (id p : ℕ) → 64 ≤ find rows id → Alone rows id p
 alone-none rows id p h j k m = find-none rows id j h k
+
+-- and the id is found there
+pub find-distinct : (rows : List ℕ) (id p : ℕ) → Distinct rows → p < 64 → id ≢ 0 → getD rows (6 * p) 0 ≡ id → find rows id ≡ p
+find-distinct rows id p d h n e =
+    find-is rows id p h e (λ j less. let m : j ≢ p = λ z. omega arith in alone-there rows id p d h n e j (omega arith) m)
 
 -- a row that is put with an id of its own is found at its place
 pub find-put : (rows : List ℕ) (p : ℕ) (r : Row) → length rows ≡ 384 → p < 64 → Alone rows (r .id) p → find (putRow rows p r) (r .id) ≡ p
@@ -193,3 +206,14 @@ find-other rows p r id l h m n = seek-same 64 0 (putRow rows p r) rows id (λ j.
     by-cases : (j : ℕ) (t : Bool) → eqb p j ≡ t → eqb (getD (putRow rows p r) (6 * j) 0) id ≡ eqb (getD rows (6 * j) 0) id
     by-cases j true e = rw (← eqb-true p j e, id-put rows p r l h, ne-eqb (r .id) id n, ne-eqb (getD rows (6 * p) 0) id m)
     by-cases j false e = rw (id-other rows p j r (eqb-false p j e))
+
+-- an id that has a row keeps it where the row put has the id of the one it replaces, or that one was free
+pub put-found : (rows : List ℕ) (p : ℕ) (r : Row) (id : ℕ) → length rows ≡ 384 → p < 64 → (getD rows (6 * p) 0 ≡ id → r .id ≡ id) → find rows id < 64
+    → find (putRow rows p r) id < 64
+put-found rows p r id l h same f = by-cases (eqb p (find rows id)) refl
+  where
+    by-cases : (t : Bool) → eqb p (find rows id) ≡ t → find (putRow rows p r) id < 64
+    by-cases true e =
+        let q : getD rows (6 * p) 0 ≡ id = rw (eqb-true p (find rows id) e) (find-tells rows id f) in
+        found (putRow rows p r) id p h (id-put rows p r l h ∙ same q)
+    by-cases false e = found (putRow rows p r) id (find rows id) f (id-other rows p (find rows id) r (eqb-false _ _ e) ∙ find-tells rows id f)

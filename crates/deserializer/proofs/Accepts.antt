@@ -24,7 +24,8 @@ use Rattle.chunk_meaning.specs.Meaning.{basicRefusal, firstRefusal, laterRefusa
 use Rattle.chunk_header.specs.Table.{isEmpty, isFull}
 use Rattle.byte_machine.specs.Rows.{find, free}
 use Rattle.deserializer.proofs.Fields.{Reaches}
-use Rattle.deserializer.proofs.Fitting.{first-fits, inside-tells, later-length, lengthOf}
+use Rattle.deserializer.proofs.Fitting.{lengthOf}
+use Rattle.chunk_meaning.proofs.Unrefused.{first-fits, inside-tells, later-length}
 use Rattle.deserializer.proofs.Reached.{Reached}
 use Rattle.deserializer.proofs.ReadsBack.{Rowed, Within, basicOf, claiming, extendedOf, finished, headOf, reads-back, refused-basic, refused-header}
 use Rattle.deserializer.proofs.Runs.{then}

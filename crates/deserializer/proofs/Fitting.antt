@@ -2,13 +2,13 @@
 use Prim.Native.Nat.{ℕ, _+_, _-_, _*_, _≤_, _<_, min}
 use mathlib.Core.Path.{_≡_, refl, sym, _∙_}
 use mathlib.Core.Logic.{_≢_}
-use mathlib.Core.Bool.{Bool, true, false, cond, not, _&&_}
+use mathlib.Core.Bool.{Bool, true, false, cond, not}
 use mathlib.Core.List.{List, [], _∷_}
 use native.Mathlib.Omega.{arith}
 use lib.Dec.{eqb, ltb, leb}
 use lib.ListN.{length, getD}
 use borrow.Author.Tests.{ne-eqb, eqb-true, eqb-false, lt-ltb, ltb-true, ltb-false}
-use Rattle.fields.specs.Cases.{_when_, first}
+use Rattle.fields.specs.Cases.{first}
 use Rattle.chunk_header.specs.declared.ChunkHeaderFormat.{ChunkHeaderFormat}
 use Rattle.chunk_header.specs.declared.ChunkHeaderFormat.the-variants.{Full, TimeDeltaWithoutMessageStreamId, TimeDeltaOnly, Empty}
 use Rattle.chunk_header.specs.declared.HeaderField.{HeaderField}
@@ -25,16 +25,18 @@ use Rattle.byte_machine.specs.Payload.{landed, paid, pays}
 use Rattle.byte_machine.specs.Step.{basic, basicBy, claims, extendedField, gathered, known, lengthField, named, stepped, streamField, swapped, timestampField, typeField}
 use Rattle.byte_machine.specs.Header.{extendedNext, lacks, lengthNext, opens, stageOf, streamNext, timestampNext, typeNext, whole}
 use Rattle.byte_machine.specs.Reader.{at, current, ended, go, headed, inPayload, paused, reader, refuse, unfinished}
-use Rattle.chunk_meaning.specs.Meaning.{basicRefusal, firstRefusal, firstTime, laterRefusal, repeats}
+use Rattle.chunk_meaning.specs.Meaning.{basicRefusal, firstRefusal, firstTime, laterRefusal}
 use Rattle.chunk_header.specs.Limits.{maxField}
 use Rattle.chunk_meaning.specs.Stored.{fielded, lengthed, streamed, timed, typed}
 use Rattle.byte_machine.specs.Rows.{find, free, putRow, rowAt, putAt}
 use Rattle.deserializer.specs.Answer.{refused}
 use Rattle.deserializer.specs.Call.{next, stepOf}
 use Rattle.deserializer.proofs.Runs.{pays-is}
+use Rattle.chunk_meaning.proofs.Unrefused.{basic-small, first-fits, first-small, inside-tells, later-length, later-small}
 use Rattle.byte_machine.proofs.Passing.{tested, at-stream, at-type, at-length, at-timestamp}
-use Rattle.byte_machine.proofs.RowLaws.{Distinct, find-tells, id-put, put-number}
-use Rattle.deserializer.proofs.Sound.{Leaves, Sound, clash, csid-used, found, in-payload-past, never, past}
+use Rattle.byte_machine.proofs.RowLaws.{Distinct, find-distinct, id-put, put-number}
+use Rattle.deserializer.proofs.Sound.{Leaves, Sound, csid-used, in-payload-past, past}
+use Rattle.fields.proofs.Tests.{clash, never}
 
 -- the fields that a chunk inside a message has only in a full header
 abbrev pub early : Stage → Bool
@@ -117,38 +119,6 @@ chunk-is-not e = let z : _≡_ {A = ℕ} 0 1 = cc in omega arith
 message-is-not : Message ≢ Refuse 255
 message-is-not e = let z : _≡_ {A = ℕ} 0 1 = cc in omega arith
 
--- the refusals of document 01 are numbers up to 14
-first-small : (format : ChunkHeaderFormat) (header : Row) (number room : ℕ) → firstRefusal format header number room ≤ 14
-unfolding firstRefusal
-first-small format header number room =
-    by-cases (not (isFull format) && (eqb (header .«timestamp_field») maxField && ltb number maxField)) (ltb room (header .«message_length»))
-  where
-    by-cases : (t u : Bool) → first (13 when t ∷ 14 when u ∷ []) 0 ≤ 14
-    by-cases true u = omega arith
-    by-cases false true = omega arith
-    by-cases false false = omega arith
-
-later-small : (format : ChunkHeaderFormat) (message header : Row) (number : ℕ) → laterRefusal format message header number ≤ 14
-unfolding laterRefusal
-later-small format message header number = by-cases (isFull format && not (repeats message header number))
-  where
-    by-cases : (t : Bool) → first (12 when t ∷ []) 0 ≤ 14
-    by-cases true = omega arith
-    by-cases false = omega arith
-
-basic-small : (format : ChunkHeaderFormat) (has-row unused inside own : Bool) → basicRefusal format has-row unused inside own ≤ 14
-unfolding basicRefusal
-basic-small format has-row unused inside own =
-    by-cases (not inside && (not (isFull format) && not has-row)) (isFull format && (not has-row && not unused)) (inside && not own)
-    (inside && (not (isFull format) && not (isEmpty format)))
-  where
-    by-cases : (t u v w : Bool) → first (9 when t ∷ 10 when u ∷ 11 when v ∷ 12 when w ∷ []) 0 ≤ 14
-    by-cases true u v w = omega arith
-    by-cases false true v w = omega arith
-    by-cases false false true w = omega arith
-    by-cases false false false true = omega arith
-    by-cases false false false false = omega arith
-
 -- a format that has a field, inside a message, is full
 has-field : (format : ChunkHeaderFormat) (field : HeaderField) → (isFull format ≡ false → isEmpty format ≡ true)
     → eqb (fieldLength (typeOf format) (indexOf field)) 0 ≡ false
@@ -171,32 +141,6 @@ no-payload Timestamp n = refl
 no-payload Length n = refl
 no-payload TypeId n = refl
 no-payload StreamId n = refl
-
--- a first chunk that is not refused fits
-pub first-fits : (format : ChunkHeaderFormat) (header : Row) (number room : ℕ) → firstRefusal format header number room ≡ 0 → header .«message_length» ≤ room
-unfolding firstRefusal
-first-fits format header number room h =
-    by-cases (not (isFull format) && (eqb (header .«timestamp_field») maxField && ltb number maxField)) (ltb room (header .«message_length»)) refl h
-  where
-    by-cases : (t u : Bool) → ltb room (header .«message_length») ≡ u → _≡_ {A = ℕ} (first (13 when t ∷ 14 when u ∷ []) 0) 0
-        → header .«message_length» ≤ room
-    by-cases true u e h = absurd (omega arith)
-    by-cases false true e h = absurd (omega arith)
-    by-cases false false e h = ltb-false _ _ e
-
--- a full header inside a message that is not refused says the message's length
-pub later-length : (format : ChunkHeaderFormat) (message header : Row) (number : ℕ) → laterRefusal format message header number ≡ 0 → isFull format ≡ true
-    → header .«message_length» ≡ message .«message_length»
-unfolding laterRefusal
-later-length format message header number h f =
-    by-cases (isFull format) (eqb (header .«message_length») (message .«message_length»)) _ f refl h
-  where
-    by-cases : (t u v : Bool) → t ≡ true → eqb (header .«message_length») (message .«message_length») ≡ u
-        → _≡_ {A = ℕ} (first (12 when (t && not (u && v)) ∷ []) 0) 0
-        → header .«message_length» ≡ message .«message_length»
-    by-cases true true v f e h = eqb-true _ _ e
-    by-cases true false v f e h = absurd (omega arith)
-    by-cases false u v f e h = never f
 
 -- so a header inside a message says its length
 says : {L : ℕ} (r : Reader) → Later L r → (isFull (r .chunk .format) ≡ true → r .chunk .header .«message_length» ≡ r .chunk .before .«message_length»)
@@ -448,22 +392,6 @@ not-not m h = by-cases (eqb m 0) refl
     by-cases true e = eqb-true m 0 e
     by-cases false e = absurd (h (eqb-false m 0 e))
 
--- inside a message a basic header that is not refused is of its own stream, and full or empty
-pub inside-tells : (format : ChunkHeaderFormat) (has-row unused own : Bool) → basicRefusal format has-row unused true own ≡ 0
-    → (own ≡ true) × (isFull format ≡ false → isEmpty format ≡ true)
-unfolding basicRefusal
-inside-tells format has-row unused own h = by-cases (isFull format) (isEmpty format) (not has-row && not unused) own h
-  where
-    by-cases : (full empty lacking own : Bool)
-        → _≡_ {A = ℕ} (first (10 when (full && lacking) ∷ 11 when not own ∷ 12 when (not full && not empty) ∷ []) 0) 0
-        → (own ≡ true) × (full ≡ false → empty ≡ true)
-    by-cases true empty true own h = absurd (omega arith)
-    by-cases true empty false true h = (refl, λ z. never (sym z))
-    by-cases true empty false false h = absurd (omega arith)
-    by-cases false true lacking true h = (refl, λ z. refl)
-    by-cases false false lacking true h = absurd (omega arith)
-    by-cases false empty lacking false h = absurd (omega arith)
-
 -- the last byte of a basic header
 named-fits : (room size : ℕ) (rows : List ℕ) (r : Reader) (format : ChunkHeaderFormat) (id : ℕ) → 0 < size → id ≢ 0 → past (r .stage) ≡ false → Sound rows r
     → Fits room (lengthOf rows (r .message .id)) r
@@ -523,13 +451,6 @@ named-fits room size rows r format id some n p s f =
           guard = go-is-not;
         })
         (λ z. refuse-fits room size (lengthOf rows (r .message .id)) some r k (small false e) f)
-
--- the row of an id is where it is found
-find-distinct : (rows : List ℕ) (id p : ℕ) → Distinct rows → p < 64 → id ≢ 0 → getD rows (6 * p) 0 ≡ id → find rows id ≡ p
-find-distinct rows id p d h n e =
-    let f = found rows id p h e in
-    let q = find-tells rows id f in
-    d (find rows id) p f h (rw q n) (q ∙ sym e)
 
 -- so the length that a step leaves is the one in the table
 pub fitting-fits : (room : ℕ) (rows : List ℕ) (m : ℕ) (s : Stepped) → length rows ≡ 384 → Leaves rows s → Fitting room (lengthOf rows m) m s

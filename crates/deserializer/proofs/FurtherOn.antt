@@ -32,7 +32,7 @@ use Rattle.byte_machine.specs.Rows.{find, numbers, putRow, rowAt}
 use Rattle.deserializer.specs.Turn.{whole}
 use Rattle.deserializer.proofs.ReadsBack.{Within, claiming, finished, reads-back}
 use Rattle.byte_machine.proofs.RowLaws.{find-tells}
-use Rattle.deserializer.proofs.Sound.{clash}
+use Rattle.fields.proofs.Tests.{clash}
 
 module _ (d : ChunkDeserializer) (input : List ℕ) (at place n : ℕ) (r : Row) (a : Amid d place r)
     (w : Next input at (r .id) (d .reader .message .got) (r .«message_length») n)

@@ -38,7 +38,7 @@ use Rattle.deserializer.proofs.Reading.{turned}
 use Rattle.deserializer.proofs.ReadsBack.{basicOf, claiming, headOf, opened, settled}
 use Rattle.byte_machine.proofs.RowLaws.{find-tells}
 use Rattle.deserializer.proofs.Runs.{run-header, then}
-use Rattle.deserializer.proofs.Sound.{clash, never}
+use Rattle.fields.proofs.Tests.{clash, never}
 
 -- one byte as a number
 pub one-number : (bs : List ℕ) (i : ℕ) → i < length bs → number (take 1 (drop i bs)) ≡ getD bs i 0

@@ -20,7 +20,8 @@ use Rattle.deserializer.specs.Call.{Outcome, after, closes, end, isRefus
 use Rattle.byte_machine.specs.Rows.{putAt}
 use Rattle.deserializer.specs.Told.{between, fresh, made, maxRoom, outcome as told-outcome, refused as no-size, sized, taken, told}
 use Rattle.chunk_header.specs.Limits.{maxSize}
-use Rattle.deserializer.proofs.Sound.{Sound, never, step-sound}
+use Rattle.deserializer.proofs.Sound.{Sound, step-sound}
+use Rattle.fields.proofs.Tests.{never}
 use Rattle.deserializer.proofs.Fitting.{Fits, fitting-fits, lengthOf, quiet-fits, step-fits}
 
 -- what holds of every decoder that calls can make

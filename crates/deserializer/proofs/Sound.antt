@@ -2,25 +2,24 @@
 use Prim.Native.Nat.{ℕ, _+_, _-_, _*_, _%_, _≤_, _<_}
 use mathlib.Core.Path.{_≡_, refl, sym, _∙_}
 use mathlib.Core.Logic.{_≢_}
-use mathlib.Core.Bool.{Bool, true, false, cond, not, _&&_}
+use mathlib.Core.Bool.{Bool, true, false, cond, not}
 use mathlib.Core.List.{List, [], _∷_}
 use native.Mathlib.Omega.{arith}
 use lib.Dec.{eqb, ltb, leb}
 use lib.ListN.{length, getD}
 use borrow.Author.Tests.{eqb-true, eqb-false, lt-ltb, ltb-true, ltb-false}
-use Rattle.fields.specs.Cases.{_when_, first}
+use Rattle.fields.specs.Cases.{first}
 use Rattle.chunk_header.specs.declared.ChunkHeaderFormat.{ChunkHeaderFormat}
 use Rattle.chunk_header.specs.declared.Csid.{Csid}
 use Rattle.chunk_header.specs.declared.Csid.the-variants.{Id, Incomplete}
 use Rattle.chunk_header.specs.Basic.{afterOne, afterZero, csid}
-use Rattle.chunk_header.specs.Table.{formatOf, isEmpty, isFull}
+use Rattle.chunk_header.specs.Table.{formatOf}
 use Rattle.deserializer.specs.declared.ChunkDeserializer.{ChunkDeserializer}
 use Rattle.chunk_header.specs.declared.HeaderField.{HeaderField}
 use Rattle.byte_machine.specs.declared.reader.Reader.{Reader}
 use Rattle.byte_machine.specs.declared.reader.Stage.{Stage}
 use Rattle.byte_machine.specs.declared.reader.Stage.the-variants.{Csid as AtCsid, CsidSecond, CsidThird, InitialTimestamp, MessageLength, MessageTypeId, MessageStreamId, ExtendedTimestamp, MessagePayload}
 use Rattle.byte_machine.specs.declared.reader.Stepped.{Stepped}
-use Rattle.chunk_meaning.specs.declared.Row.{Row}
 use Rattle.byte_machine.specs.Payload.{landed, paid, pays}
 use Rattle.byte_machine.specs.Step.{basic, basicBy, claims, extendedField, gathered, known, lengthField, named, stepped, streamField, swapped, timestampField, typeField}
 use Rattle.byte_machine.specs.Header.{stageOf, extendedNext, lacks, lengthNext, opens, streamNext, timestampNext, typeNext, whole}
@@ -29,17 +28,11 @@ use Rattle.chunk_meaning.specs.Meaning.{basicRefusal, firstRefusal, firstTime, 
 use Rattle.chunk_header.specs.Limits.{maxField}
 use Rattle.chunk_meaning.specs.Stored.{claimed, fielded, lengthed, streamed, timed, typed}
 use Rattle.byte_machine.specs.Rows.{find, free, putRow, rowAt, putAt}
-use Rattle.deserializer.specs.Answer.{refused}
 use Rattle.deserializer.specs.Call.{stepOf}
+use Rattle.chunk_meaning.proofs.Unrefused.{claims-free}
+use Rattle.fields.proofs.Tests.{clash, never}
 use Rattle.byte_machine.proofs.Passing.{at-stream, at-type, at-length, at-timestamp}
-use Rattle.byte_machine.proofs.RowLaws.{Distinct, alone-none, alone-there, distinct-put, find-none, find-tells, id-other, id-put, length-putRow}
-
--- a test that tells both ways
-pub clash : {A : Type 0} {t : Bool} → t ≡ false → t ≡ true → A
-clash p q = absurd (let z : _≡_ {A = ℕ} 0 1 = cc in omega arith)
-
-pub never : {A : Type 0} → false ≡ true → A
-never q = clash refl q
+use Rattle.byte_machine.proofs.RowLaws.{Distinct, alone-none, alone-there, distinct-put, find-tells, found, id-put, length-putRow, put-found}
 
 -- the basic header is whole: a field of the header comes, or payload
 abbrev pub past : Stage → Bool
@@ -69,25 +62,6 @@ pub record Sound (rows : List ℕ) (r : Reader) : Type 0 where
   pub distinct : Distinct rows
   pub begun : HasRow rows (r .message .id)
   pub owns : past (r .stage) ≡ true → Owns rows (r .chunk .place) (r .chunk .header .id)
-
--- a row of that id is found
-pub found : (rows : List ℕ) (id p : ℕ) → p < 64 → getD rows (6 * p) 0 ≡ id → find rows id < 64
-found rows id p h e = by-cases (ltb (find rows id) 64) refl
-  where
-    by-cases : (t : Bool) → ltb (find rows id) 64 ≡ t → find rows id < 64
-    by-cases true f = ltb-true _ _ f
-    by-cases false f = absurd (find-none rows id p (ltb-false _ _ f) h e)
-
--- an id that has a row keeps it where the row put has the id of the one it replaces, or that one was free
-put-found : (rows : List ℕ) (p : ℕ) (r : Row) (id : ℕ) → length rows ≡ 384 → p < 64 → (getD rows (6 * p) 0 ≡ id → r .id ≡ id) → find rows id < 64
-    → find (putRow rows p r) id < 64
-put-found rows p r id l h same f = by-cases (eqb p (find rows id)) refl
-  where
-    by-cases : (t : Bool) → eqb p (find rows id) ≡ t → find (putRow rows p r) id < 64
-    by-cases true e =
-        let q : getD rows (6 * p) 0 ≡ id = rw (eqb-true p (find rows id) e) (find-tells rows id f) in
-        found (putRow rows p r) id p h (id-put rows p r l h ∙ same q)
-    by-cases false e = found (putRow rows p r) id (find rows id) f (id-other rows p (find rows id) r (eqb-false _ _ e) ∙ find-tells rows id f)
 
 -- a step keeps to the row of its chunk: what it puts has its id and its place
 pub record Stays (rows : List ℕ) (place id : ℕ) (s : Stepped) : Type 0 where
@@ -227,24 +201,6 @@ csid-used P (b ∷ bs) more whole = by-cases (eqb (b % 64) 0) (eqb (b % 64) 1) r
     by-cases false true e (x ∷ []) = more
     by-cases false true e (x ∷ y ∷ xs) = whole (256 * y + x + 64) (λ z. omega arith)
     by-cases false false e rest = whole (b % 64) (eqb-false _ _ e)
-
--- a chunk on a stream with no row is not refused only where a row is free, unless the message that has begun is its own
-claims-free : (format : ChunkHeaderFormat) (unused inside own : Bool) → (inside ≡ true → own ≡ true → ⊥)
-    → basicRefusal format false unused inside own ≡ 0
-    → unused ≡ true
-unfolding basicRefusal
-claims-free format unused inside own n h = by-cases (isFull format) (isEmpty format) unused inside own n h
-  where
-    by-cases : (full empty unused inside own : Bool) → (inside ≡ true → own ≡ true → ⊥)
-        → _≡_ {A = ℕ} (first (9 when (not inside && (not full && true)) ∷ 10 when (full && (true && not unused)) ∷ 11 when (inside && not own)
-        ∷ 12 when (inside && (not full && not empty)) ∷ []) 0) 0
-        → unused ≡ true
-    by-cases full empty true inside own n h = refl
-    by-cases true empty false true own n h = absurd (omega arith)
-    by-cases true empty false false own n h = absurd (omega arith)
-    by-cases false empty false false own n h = absurd (omega arith)
-    by-cases false empty false true false n h = absurd (omega arith)
-    by-cases false empty false true true n h = absurd (n refl refl)
 
 -- a step leaves a sound table
 abbrev pub Leaves : List ℕ → Stepped → Type 0

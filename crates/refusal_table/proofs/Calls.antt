@@ -23,7 +23,7 @@ use Rattle.deserializer.proofs.Cut.{refused-not-more, shift}
 use Rattle.deserializer.proofs.Heading.{starts}
 use Rattle.deserializer.proofs.Progress.{run-uses}
 use Rattle.deserializer.proofs.Runs.{next-runs, next-short}
-use Rattle.deserializer.proofs.Sound.{clash}
+use Rattle.fields.proofs.Tests.{clash}
 use Rattle.refusal_table.specs.Conditions.{Inside}
 use Rattle.refusal_table.specs.History.{Closed, Open, Settled}
 use Rattle.refusal_table.specs.Table.{Call, CallAt, InsideMeans}

@@ -16,8 +16,8 @@ use Rattle.chunk_header.specs.Table.{isEmpty, isFull}
 use Rattle.chunk_header.specs.Limits.{maxField}
 use Rattle.byte_machine.specs.Rows.{find, free, rowAt}
 use Rattle.deserializer.proofs.Reached.{Reached}
-use Rattle.byte_machine.proofs.RowLaws.{Distinct, find-none, find-tells}
-use Rattle.deserializer.proofs.Sound.{clash, found}
+use Rattle.byte_machine.proofs.RowLaws.{Distinct, find-none, find-tells, found}
+use Rattle.fields.proofs.Tests.{clash}
 use Rattle.refusal_table.specs.Conditions.{AllUsed, Below, HasRow, Inside, Over, Repeats, basic, eleven, fourteen, nine, ten, theRow, thirteen, timeOf, type}
 use Rattle.refusal_table.specs.Terms.{OneOf, _unless_}
 use Rattle.refusal_table.proofs.Deciding.{Decides, both, both-then, equal, here, in-words, joined, later, less, neither, not-decides, not-not, where-not, where-so}

@@ -17,7 +17,7 @@ use Rattle.byte_machine.specs.Reader.{inPayload, refuse}
 use Rattle.deserializer.proofs.Closing.{refusal-only-closes}
 use Rattle.deserializer.proofs.Cut.{refused-not-more}
 use Rattle.deserializer.proofs.Runs.{landed-not-refused}
-use Rattle.deserializer.proofs.Sound.{clash}
+use Rattle.fields.proofs.Tests.{clash}
 use Rattle.refusal_table.specs.History.{closedWith}
 use Rattle.refusal_table.proofs.Standing.{refused-not-message}
 

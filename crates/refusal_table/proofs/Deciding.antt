@@ -8,7 +8,7 @@ use native.Mathlib.Omega.{arith}
 use lib.Dec.{eqb, ltb}
 use borrow.Author.Tests.{eqb-false, eqb-true, ltb-false, ltb-true}
 use Rattle.user_control.specs.Reading.{among}
-use Rattle.deserializer.proofs.Sound.{clash}
+use Rattle.fields.proofs.Tests.{clash}
 use Rattle.refusal_table.specs.Terms.{OneOf, _unless_}
 
 pub record Decides (t : Bool) (P : Type 0) : Type 0 where

@@ -11,7 +11,7 @@ use borrow.Author.Tests.{eq-eqb, eqb-false, eqb-true, ne-eqb}
 use Rattle.deserializer.specs.declared.ChunkDeserializer.{ChunkDeserializer}
 use Rattle.deserializer.specs.Told.{Outcome, between, fresh, made, maxRoom, outcome, refused, sized, taken, told}
 use Rattle.chunk_header.specs.Limits.{maxSize}
-use Rattle.deserializer.proofs.Sound.{clash}
+use Rattle.fields.proofs.Tests.{clash}
 use Rattle.refusal_table.specs.Conditions.{eight}
 use Rattle.refusal_table.specs.History.{Open}
 use Rattle.refusal_table.specs.Table.{New}

@@ -21,7 +21,7 @@ use Rattle.deserializer.specs.declared.ChunkDeserializer.{ChunkDeserializer}
 use Rattle.byte_machine.specs.declared.reader.Stage.the-variants.{Csid}
 use Rattle.deserializer.specs.Told.{made, maxRoom}
 use Rattle.deserializer.proofs.Reached.{Reached, made-reached}
-use Rattle.deserializer.proofs.Sound.{clash}
+use Rattle.fields.proofs.Tests.{clash}
 use Rattle.round_trip.proofs.Held.{Held, Spare}
 use Rattle.round_trip.proofs.Packets.{Awake}
 use Rattle.round_trip.proofs.Taking.{At}

@@ -1,7 +1,7 @@
 -- Where every test is passed, there is such a chunk.
 use mathlib.Core.Path.{sym}
 use native.Mathlib.Omega.{arith}
-use Rattle.deserializer.proofs.Sound.{never}
+use Rattle.fields.proofs.Tests.{never}
 use borrow.Author.Needs.{needs}
 use Rattle.deserializer.proofs.further.stops.Statement.{statement}
 use Rattle.deserializer.proofs.further.stops.Tie as tie

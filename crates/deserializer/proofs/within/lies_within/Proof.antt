@@ -3,7 +3,7 @@ use mathlib.Core.Path.{sym, _∙_}
 use native.Mathlib.Omega.{arith}
 use borrow.Author.Tests.{ltb-true}
 use Rattle.deserializer.proofs.Runs.{pays-tells}
-use Rattle.deserializer.proofs.Sound.{never}
+use Rattle.fields.proofs.Tests.{never}
 use borrow.Author.Needs.{needs}
 use Rattle.deserializer.proofs.within.lies_within.Statement.{statement}
 use Rattle.deserializer.proofs.within.lies_within.Tie as tie
