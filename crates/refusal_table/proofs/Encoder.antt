@@ -11,7 +11,8 @@ use Rattle.fields.specs.Endian.{bigEndian}
 use Rattle.serializer.specs.declared.ChunkSerializer.{ChunkSerializer}
 use Rattle.serializer.specs.declared.format.Message.{Message}
 use Rattle.serializer.specs.Answer.{Answer, refused, wrote}
-use Rattle.serializer.specs.Serialize.{Outcome, accept, needed, packetOf, refuse, serialized, sizeChanged, sizeMessage}
+use Rattle.serializer.specs.Remembered.{packetOf}
+use Rattle.serializer.specs.Serialize.{Outcome, accept, needed, refuse, sent, serialized, sizeChanged, sizeMessage}
 use Rattle.chunk_header.specs.Limits.{maxLength, maxSize}
 use Rattle.refusal_table.specs.Table.{sizePacket}
 use Rattle.refusal_table.specs.Terms.{OneOf}
@@ -39,7 +40,7 @@ gives s output n = record { is = refl; only = λ m h. cc; left = (refl, refl) }
 pub message-rows : (s : ChunkSerializer) (m : Message) (payload output : List ℕ)
     → Three Is (AsBefore s output) 1 2 5 (serialized s m payload output) (length payload ≡ 0) (16777215 < length payload)
     (length output < length (packetOf s m payload))
-unfolding serialized
+unfolding serialized sent
 message-rows s m payload output =
     three Is (AsBefore s output) (accept s m payload (s .«max_chunk_size») output) (gives s output 1) (gives s output 2) (gives s output 5)
     (written (length (packetOf s m payload))) (omega arith) (omega arith) (omega arith) (λ h e. omega arith)
@@ -48,7 +49,7 @@ message-rows s m payload output =
 -- a size change: 3, 4, 5
 pub size-rows : (s : ChunkSerializer) (size time : ℕ) (output : List ℕ)
     → Three Is (AsBefore s output) 3 4 5 (sizeChanged s size time output) (size ≡ 0) (2147483647 < size) (length output < length (sizePacket s size time))
-unfolding sizeChanged
+unfolding sizeChanged sent
 size-rows s size time output =
     three Is (AsBefore s output) (accept s (sizeMessage time) (bigEndian 4 size) size output) (gives s output 3) (gives s output 4) (gives s output 5)
     (written (length (sizePacket s size time))) (omega arith) (omega arith) (omega arith) (λ h e. omega arith)

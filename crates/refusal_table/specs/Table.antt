@@ -13,7 +13,8 @@ use Rattle.user_control.specs.Writing.{leaves, writing}
 use Rattle.serializer.specs.declared.ChunkSerializer.{ChunkSerializer}
 use Rattle.serializer.specs.declared.format.Message.{Message}
 use Rattle.serializer.specs.Answer.{refused as no-packet}
-use Rattle.serializer.specs.Serialize.{Outcome as Encoded, needed, packetOf, serialized, sizeChanged, sizeMessage}
+use Rattle.serializer.specs.Remembered.{packetOf}
+use Rattle.serializer.specs.Serialize.{Outcome as Encoded, needed, serialized, sizeChanged, sizeMessage}
 use Rattle.chunk_header.specs.Layout.{Chunk}
 use Rattle.deserializer.specs.declared.ChunkDeserializer.{ChunkDeserializer}
 use Rattle.deserializer.specs.Answer.{refused}

@@ -15,7 +15,7 @@ use Rattle.serializer.specs.declared.ChunkSerializer.{ChunkSerializer}
 use Rattle.serializer.specs.declared.format.Message.{Message}
 use Rattle.serializer.specs.Header.{header}
 use Rattle.serializer.specs.Message.{chunkStream}
-use Rattle.serializer.specs.Serialize.{fresh, previous, remember, rowOf}
+use Rattle.serializer.specs.Remembered.{fresh, previous, remember, rowOf}
 use Rattle.serializer.proofs.Stream.{stream-range}
 use Rattle.deserializer.specs.declared.ChunkDeserializer.{ChunkDeserializer}
 use Rattle.byte_machine.specs.declared.reader.Stage.the-variants.{Csid}

@@ -11,7 +11,7 @@ use borrow.Author.Tests.{eq-eqb, ne-eqb, le-ltb}
 use Rattle.serializer.specs.declared.ChunkSerializer.{ChunkSerializer}
 use Rattle.serializer.specs.Answer.{refused as not-written}
 use Rattle.serializer.specs.Header.{header}
-use Rattle.serializer.specs.Serialize.{fresh, packetOf, previous, remember}
+use Rattle.serializer.specs.Remembered.{fresh, packetOf, previous, remember}
 use Rattle.deserializer.specs.declared.ChunkDeserializer.{ChunkDeserializer}
 use Rattle.byte_machine.specs.declared.reader.Reader.{Reader}
 use Rattle.byte_machine.specs.declared.reader.Stage.the-variants.{Csid}

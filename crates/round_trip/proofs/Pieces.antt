@@ -5,7 +5,7 @@ use mathlib.Core.List.{List, [], _∷_, _++_}
 use native.Mathlib.Omega.{arith}
 use lib.ListN.{length, drop, length-append, length-drop}
 use lib.Seq.{drop-append-le, take-append-seam}
-use Rattle.serializer.specs.Serialize.{fresh}
+use Rattle.serializer.specs.Remembered.{fresh}
 use Rattle.deserializer.specs.Answer.{used}
 use Rattle.deserializer.specs.Call.{next as called}
 use Rattle.deserializer.specs.Told.{maxRoom}

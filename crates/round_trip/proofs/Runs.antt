@@ -13,7 +13,8 @@ use Rattle.chunk_header.specs.Table.{fieldLength, formatOf}
 use Rattle.serializer.specs.Header.{delta, format}
 use Rattle.serializer.specs.Message.{chunkStream}
 use Rattle.serializer.specs.Packet.{pieces, packet}
-use Rattle.serializer.specs.Serialize.{fresh, serialized, sizeChanged}
+use Rattle.serializer.specs.Remembered.{fresh}
+use Rattle.serializer.specs.Serialize.{sent, serialized, sizeChanged}
 use Rattle.deserializer.specs.Call.{after, next, run, stepOf, writes}
 use Rattle.byte_machine.specs.Payload.{pays, landed}
 use Rattle.byte_machine.specs.Step.{named, timestampField, lengthField, typeField, streamField, extendedField}
@@ -68,7 +69,7 @@ use Rattle.round_trip.specs.Runs.{
 
 -- all that a run computes with: a statement that unfolds this unfolds what it names
 unfoldable computing : Type 0
-unfolding fieldLength formatOf after next run stepOf writes opens whole extendedNext streamNext typeNext lengthNext timestampNext named timestampField lengthField typeField streamField extendedField pays landed basicRefusal laterRefusal firstRefusal putRow seek made told bigEndian littleEndian gather csid chunkBytes delta format chunkStream pieces packet serialized sizeChanged
+unfolding fieldLength formatOf after next run stepOf writes opens whole extendedNext streamNext typeNext lengthNext timestampNext named timestampField lengthField typeField streamField extendedField pays landed basicRefusal laterRefusal firstRefusal putRow seek made told bigEndian littleEndian gather csid chunkBytes delta format chunkStream pieces packet sent serialized sizeChanged
 computing = Unit {0}
 
 -- the trip: what is written ..

@@ -18,7 +18,8 @@ use Rattle.serializer.specs.declared.format.Message.{Message as Parameters}
 use Rattle.serializer.specs.Answer.{wrote, refused}
 use Rattle.serializer.specs.Header.{delta}
 use Rattle.serializer.specs.Message.{message as to-encode}
-use Rattle.serializer.specs.Serialize.{Outcome, accept, packetOf, refuse, remember, serialized, sizeChanged, sizeMessage}
+use Rattle.serializer.specs.Remembered.{packetOf, remember}
+use Rattle.serializer.specs.Serialize.{Outcome, accept, refuse, sent, serialized, sizeChanged, sizeMessage}
 use Rattle.chunk_header.specs.Limits.{maxLength, maxSize}
 use Rattle.serializer.proofs.Stream.{stream-range}
 use Rattle.round_trip.specs.Demand3.{Call, Ranged, encodes, resize, send}
@@ -58,7 +59,7 @@ pub data Answers (s : ChunkSerializer) (c : Call) (o : Outcome) : Type 0 where
 
 answers-send : (s : ChunkSerializer) (type stream time : ℕ) (payload : List ℕ) (forced droppable : Bool) (output : List ℕ)
     → Answers s (send type stream time payload forced droppable output) (encodes s (send type stream time payload forced droppable output))
-unfolding serialized
+unfolding serialized sent
 answers-send s type stream time payload forced droppable output =
     by-tests (eqb (length payload) 0) (ltb maxLength (length payload)) (ltb (length output) (length (packetOf s m payload))) refl refl
   where
@@ -85,7 +86,7 @@ answers-send s type stream time payload forced droppable output =
         }
 
 answers-resize : (s : ChunkSerializer) (size time : ℕ) (output : List ℕ) → Answers s (resize size time output) (encodes s (resize size time output))
-unfolding sizeChanged
+unfolding sizeChanged sent
 answers-resize s size time output =
     by-tests (eqb size 0) (ltb maxSize size) (ltb (length output) (length (packetOf s (sizeMessage time) (bigEndian 4 size)))) refl refl
   where

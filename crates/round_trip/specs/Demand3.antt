@@ -8,7 +8,8 @@ use Rattle.fields.specs.Endian.{bigEndian}
 use Rattle.serializer.specs.declared.ChunkSerializer.{ChunkSerializer}
 use Rattle.serializer.specs.Answer.{Answer as Written, wrote, refused as not-written}
 use Rattle.serializer.specs.Message.{message as to-encode}
-use Rattle.serializer.specs.Serialize.{Outcome as Encoded, fresh, serialized, sizeChanged}
+use Rattle.serializer.specs.Remembered.{fresh}
+use Rattle.serializer.specs.Serialize.{Outcome as Encoded, serialized, sizeChanged}
 use Rattle.deserializer.specs.declared.ChunkDeserializer.{ChunkDeserializer}
 use Rattle.deserializer.specs.Answer.{Listed, message as found, more, refused as not-read}
 use Rattle.deserializer.specs.Call.{Outcome as Decoded, next}

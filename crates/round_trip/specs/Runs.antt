@@ -3,7 +3,7 @@ use Prim.Native.Nat.{ℕ, _+_, _≤_}
 use mathlib.Core.Bool.{true, false}
 use mathlib.Core.List.{List, [], _∷_, _++_, map}
 use lib.ListN.{length, set, replicate}
-use Rattle.serializer.specs.Serialize.{fresh}
+use Rattle.serializer.specs.Remembered.{fresh}
 use Rattle.deserializer.specs.Told.{maxRoom}
 use Rattle.round_trip.specs.Demand3.{
   Call,

@@ -7,7 +7,7 @@ use Rattle.user_control.specs.Reading.{known, count, reading}
 use Rattle.serializer.specs.Header.{delta, format}
 use Rattle.serializer.specs.Message.{chunkStream}
 use Rattle.serializer.specs.Packet.{pieces, packet}
-use Rattle.serializer.specs.Serialize.{serialized, sizeChanged}
+use Rattle.serializer.specs.Serialize.{sent, serialized, sizeChanged}
 use Rattle.chunk_header.specs.Table.{fieldLength, formatOf}
 use Rattle.deserializer.specs.Call.{after, next, run, stepOf, writes}
 use Rattle.byte_machine.specs.Payload.{pays, landed}
@@ -20,5 +20,5 @@ use Rattle.samples.specs.Sample.{AsPrinted}
 use Rattle.samples.specs.Table.{table}
 
 pub samples-hold : AsPrinted table
-unfolding fieldLength formatOf after next run stepOf writes opens whole extendedNext streamNext typeNext lengthNext timestampNext named timestampField lengthField typeField streamField extendedField pays landed basicRefusal laterRefusal firstRefusal putRow seek made bigEndian littleEndian gather csid chunkBytes known count reading delta format chunkStream pieces packet serialized sizeChanged
+unfolding fieldLength formatOf after next run stepOf writes opens whole extendedNext streamNext typeNext lengthNext timestampNext named timestampField lengthField typeField streamField extendedField pays landed basicRefusal laterRefusal firstRefusal putRow seek made bigEndian littleEndian gather csid chunkBytes known count reading delta format chunkStream pieces packet sent serialized sizeChanged
 samples-hold = refl

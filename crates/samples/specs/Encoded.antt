@@ -6,7 +6,8 @@ use lib.ListN.{length, take, replicate}
 use Rattle.serializer.specs.declared.ChunkSerializer.{ChunkSerializer}
 use Rattle.serializer.specs.Answer.{Answer, wrote, refused}
 use Rattle.serializer.specs.Message.{message}
-use Rattle.serializer.specs.Serialize.{Outcome, fresh, serialized, sizeChanged}
+use Rattle.serializer.specs.Remembered.{fresh}
+use Rattle.serializer.specs.Serialize.{Outcome, serialized, sizeChanged}
 
 -- a call: a message to send, or a new chunk size at a time
 pub data Call : Type 0 where

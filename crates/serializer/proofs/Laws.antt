@@ -18,7 +18,8 @@ use Rattle.serializer.specs.Answer.{refused}
 use Rattle.serializer.specs.Header.{delta, format, header, timeField}
 use Rattle.serializer.specs.Message.{message}
 use Rattle.serializer.specs.Packet.{chunk, chunksOf, chunks, cut, extended, laterFormat, pieces, packet, roundedUp}
-use Rattle.serializer.specs.Serialize.{Outcome, refuse, accept, packetOf, serialized}
+use Rattle.serializer.specs.Remembered.{packetOf}
+use Rattle.serializer.specs.Serialize.{Outcome, refuse, accept, sent, serialized}
 use Rattle.chunk_header.specs.Limits.{maxLength}
 use Rattle.serializer.proofs.Chunk.{head-most, length-head, extended-most}
 use Rattle.serializer.proofs.PacketLength.{head, length-packet}
@@ -88,7 +89,7 @@ after-droppable m next previous e = rw (e, or-true, or-true)
 -- a refusal leaves all as before
 pub refusal-leaves : (s : ChunkSerializer) (m : Message) (payload output : List ℕ) (n : ℕ) → serialized s m payload output .answer ≡ refused n
     → serialized s m payload output ≡ refuse s output n
-unfolding serialized
+unfolding serialized sent
 refusal-leaves s m payload output n e =
     go (eqb (length payload) 0) (ltb maxLength (length payload)) (ltb (length output) (length (packetOf s m payload))) e
   where

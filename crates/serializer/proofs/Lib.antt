@@ -5,5 +5,4 @@ pub mod MessageHeader
 pub mod PacketLength
 pub mod Pieces
 pub mod Stream
-pub mod Sent
 pub mod Unique

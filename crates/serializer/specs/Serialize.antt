@@ -1,24 +1,20 @@
 -- What the encoder's calls answer and leave (document 01, "Encoder", refusals 1 to 5 and their order).
-use Prim.Native.Nat.{ℕ, _-_, max}
+use Prim.Native.Nat.{ℕ}
 use mathlib.Core.Bool.{true, false}
 use mathlib.Core.List.{List, [], _∷_}
 use lib.Dec.{ltb, eqb}
-use lib.ListN.{length, getD, set, replicate}
+use lib.ListN.{length}
 use Rattle.fields.specs.Cases.{_when_, first}
 use Rattle.fields.specs.Endian.{bigEndian}
 use Rattle.fields.specs.Output.{over}
-use Rattle.chunk_header.specs.declared.ChunkHeader.{ChunkHeader}
-use Rattle.chunk_header.specs.Header.{nothing}
-use Rattle.chunk_header.specs.Limits.{initialSize, maxLength, maxSize}
+use Rattle.chunk_header.specs.Limits.{maxLength, maxSize}
 use Rattle.serializer.specs.declared.ChunkSerializer.{ChunkSerializer}
 use Rattle.serializer.specs.declared.Packet.{Packet}
 use Rattle.serializer.specs.declared.Serialized.{Serialized}
 use Rattle.serializer.specs.declared.format.Message.{Message}
-use Rattle.serializer.specs.declared.plan.Plan.{Plan}
 use Rattle.serializer.specs.Answer.{Answer, wrote, refused, answerOf}
-use Rattle.serializer.specs.Header.{header, firstChunk}
-use Rattle.serializer.specs.Message.{message, chunkStream}
-use Rattle.serializer.specs.Packet.{laterFormat, packet}
+use Rattle.serializer.specs.Message.{message}
+use Rattle.serializer.specs.Remembered.{packetOf, remember}
 
 -- the answer, the encoder and the output after a call
 pub record Outcome : Type 0 where
@@ -32,28 +28,6 @@ outcomeOf r output = record { answer = answerOf (r .packet); serializer = r .ser
 abbrev pub unsent : ChunkSerializer → Packet → Serialized
 unsent s packet = record { serializer = s; packet = packet }
 
--- the chunk size in force, which no call makes 0
-abbrev pub sizeOf : ChunkSerializer → ℕ
-sizeOf s = max 1 (s .«max_chunk_size»)
-
--- what is decided of a packet before its first byte
-abbrev pub planned : Message → ChunkHeader → ℕ → Plan
-planned m previous size = record { first = firstChunk m previous; later = laterFormat (m .«force_uncompressed»); size = max 1 size }
-
--- the row of a message's chunk stream: 2 to 6 have rows 0 to 4
-abbrev pub rowOf : Message → ℕ
-rowOf m = chunkStream (m .«type_id») - 2
-
-abbrev pub previous : ChunkSerializer → Message → ChunkHeader
-previous s m = getD (s .«previous_headers») (rowOf m) nothing
-
-abbrev pub packetOf : ChunkSerializer → Message → List ℕ → List ℕ
-packetOf s m payload = packet (sizeOf s) m payload (previous s m)
-
--- the encoder with the message's header remembered, and a chunk size
-abbrev pub remember : ChunkSerializer → Message → ℕ → ChunkSerializer
-remember s m size = record { «previous_headers» = set (s .«previous_headers») (rowOf m) (header m (previous s m)); «max_chunk_size» = size }
-
 -- a refusal leaves all as before
 abbrev pub refuse : ChunkSerializer → List ℕ → ℕ → Outcome
 refuse s output n = record { answer = refused n; serializer = s; output = output }
@@ -63,32 +37,27 @@ abbrev pub accept : ChunkSerializer → Message → List ℕ → ℕ → List �
 accept s m payload size output =
     record { answer = wrote (length (packetOf s m payload)); serializer = remember s m size; output = over (packetOf s m payload) output }
 
--- a packet sent, or 5
+-- a packet sent, or 5: "output shorter than the exact bytes needed"
 unfoldable pub sent : ChunkSerializer → Message → List ℕ → ℕ → List ℕ → Outcome
 sent s m payload size output = first (refuse s output 5 when ltb (length output) (length (packetOf s m payload)) ∷ []) (accept s m payload size output)
 
+-- "encoding 1, 2, 5"
 unfoldable pub serialized : ChunkSerializer → Message → List ℕ → List ℕ → Outcome
 serialized s m payload output =
     first (refuse s output 1 when eqb (length payload) 0
     ∷ refuse s output 2 when ltb maxLength (length payload)
-    ∷ refuse s output 5 when ltb (length output) (length (packetOf s m payload))
-    ∷ []) (accept s m payload (s .«max_chunk_size») output)
+    ∷ []) (sent s m payload (s .«max_chunk_size») output)
 
 -- "message type 1, stream 0, forced, not droppable, its body the new size in four bytes"
 abbrev pub sizeMessage : ℕ → Message
 sizeMessage time = message 1 0 time 4 true false
 
--- "cut by the old size; the new size holds afterwards"
+-- "size change at the encoder 3, 4, 5"; "cut by the old size; the new size holds afterwards"
 unfoldable pub sizeChanged : ChunkSerializer → ℕ → ℕ → List ℕ → Outcome
 sizeChanged s size time output =
     first (refuse s output 3 when eqb size 0
     ∷ refuse s output 4 when ltb maxSize size
-    ∷ refuse s output 5 when ltb (length output) (length (packetOf s (sizeMessage time) (bigEndian 4 size)))
-    ∷ []) (accept s (sizeMessage time) (bigEndian 4 size) size output)
-
--- a fresh encoder: nothing remembered
-abbrev pub fresh : ChunkSerializer
-fresh = record { «previous_headers» = replicate 5 nothing; «max_chunk_size» = initialSize }
+    ∷ []) (sent s (sizeMessage time) (bigEndian 4 size) size output)
 
 -- what a message takes, were the output long enough
 unfoldable pub needed : ChunkSerializer → Message → List ℕ → Answer

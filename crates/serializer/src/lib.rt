@@ -4,7 +4,8 @@ ghost use lib.ListN.{length};
 ghost use Rattle.serializer.specs.Answer.{answerOf};
 ghost use Prim.Native.Nat.{_<_, _≤_};
 ghost use Rattle.serializer.specs.Message.{message as Message·message};
-ghost use Rattle.serializer.specs.Serialize.{fresh, needed, outcomeOf, planned, previous, sent, serialized, sizeChanged, unsent};
+ghost use Rattle.serializer.specs.Remembered.{fresh, planned, previous};
+ghost use Rattle.serializer.specs.Serialize.{needed, outcomeOf, sent, serialized, sizeChanged, unsent};
 ghost use Rattle.chunk_header.specs.Limits.{maxLength};
 
 mod format;

@@ -4,7 +4,7 @@ ghost use Prim.Native.Nat.{_≤_, _<_, max};
 ghost use lib.ListN.{length};
 ghost use Rattle.serializer.specs.Header.{firstChunk};
 ghost use Rattle.serializer.specs.Packet.{chunksOf, joined, laterFormat, pieces};
-ghost use Rattle.serializer.specs.Serialize.{planned};
+ghost use Rattle.serializer.specs.Remembered.{planned};
 ghost use Rattle.chunk_header.specs.Limits.{maxLength};
 use crate::format::FirstChunk;
 use crate::format::Message;

@@ -1,10 +1,6 @@
 -- The row is one of the five.
-use Prim.Native.Nat.{ℕ, _<_}
-use mathlib.Core.Path.{ap, _∙_}
+use Prim.Native.Nat.{_<_}
 use native.Mathlib.Omega.{arith}
-use lib.ListN.{getD}
-use Rattle.chunk_header.specs.Header.{nothing}
-use Rattle.serializer.specs.Serialize.{planned}
 use Rattle.serializer.proofs.Stream.{stream-range}
 use borrow.Author.Needs.{needs}
 use Rattle.serializer.proofs.plan_for.Statement.{statement}
@@ -26,9 +22,7 @@ plan-packet-requires : tie.Need-plan-packet-requires
 plan-packet-requires c κs = search needs
 
 returns : tie.Need-returns
-returns c =
-    let a = c .before .before .before .before .args in
-    c .plan-packet .ensures ∙ ap (λ (n : ℕ). planned (a .message) (getD (a .serializer .«previous_headers») n nothing) (a .serializer .«max_chunk_size»)) (c .before .before .row-of .ensures)
+returns c = rw (c .plan-packet .ensures, c .before .before .row-of .ensures)
 
 pub plan-for-spec : {M : Type 1} → statement M
 plan-for-spec =

@@ -2,13 +2,14 @@
 use Prim.Native.Nat.{ℕ, _<_, max}
 use mathlib.Core.Path.{_≡_, ap, _∙_}
 use native.Mathlib.Omega.{arith}
-use lib.ListN.{getD}
-use Rattle.chunk_header.specs.Header.{nothing}
+use lib.ListN.{length}
 use Rattle.serializer.specs.declared.plan.Plan.{Plan}
-use Rattle.serializer.specs.Serialize.{planned, previous}
-use Rattle.serializer.proofs.Sent.{sent-none, sent-all}
+use Rattle.serializer.specs.Packet.{packet}
+use Rattle.serializer.specs.Remembered.{packetOf, planned, previous}
+use Rattle.serializer.specs.Serialize.{sent}
 use Rattle.serializer.proofs.Stream.{stream-range}
 use borrow.Author.Needs.{needs}
+use borrow.Author.Tests.{lt-ltb, le-ltb}
 use Rattle.serializer.proofs.send.Statement.{statement}
 use Rattle.serializer.proofs.send.Tie as tie
 
@@ -18,12 +19,15 @@ row c = omega (arith, c .row-of .ensures, stream-range (c .before .before .befor
 
 -- the plan is that of the message after what is remembered of its stream
 plan : (c : tie.After-plan-packet) → let a = c .before .before .before .before .before .before .args in c .plan-packet .result ≡ planned (a .message) (previous (a .serializer) (a .message)) (a .serializer .«max_chunk_size»)
-plan c =
-    let a = c .before .before .before .before .before .before .args in
-    c .plan-packet .ensures ∙ ap (λ (n : ℕ). planned (a .message) (getD (a .serializer .«previous_headers») n nothing) (a .serializer .«max_chunk_size»)) (c .before .before .before .row-of .ensures)
+plan c = rw (c .plan-packet .ensures, c .before .before .before .row-of .ensures)
 
 size : (c : tie.After-plan-packet) → c .plan-packet .result .size ≡ max 1 (c .before .before .before .before .before .before .args .serializer .«max_chunk_size»)
 size c = ap (λ (p : Plan). p .size) (plan c)
+
+-- and what it takes is the length of the definition's packet
+needed : (c : tie.After-bytes-needed) → let a = c .before .before .before .before .before .before .before .args in c .bytes-needed .result ≡ length (packetOf (a .serializer) (a .message) (a .payload .now))
+unfolding packet
+needed c = c .bytes-needed .ensures ∙ rw (plan (c .before))
 
 row-of-requires : tie.Need-row-of-requires
 row-of-requires c κs = search needs
@@ -43,11 +47,8 @@ bytes-needed-requires c κs =
     (start .pre .0, start .pre .1, rw (size c) (omega arith))
 
 returns : tie.Need-returns
-returns c =
-    let n = c .before in
-    let p = n .before in
-    let a = p .before .before .before .before .before .before .args in
-    sent-none (a .serializer) (a .message) (a .payload .now) (a .output .now) (a .size-after) (p .plan-packet .result) (plan p) (n .bytes-needed .result) (n .bytes-needed .ensures) (c .if1 .taken)
+unfolding sent
+returns c = simp (← needed (c .before), lt-ltb _ _ (c .if1 .taken))
 
 mul-headers : tie.Need-mul-headers
 mul-headers c = omega (arith, row (c .before .before .before .before .before .before .before))
@@ -70,14 +71,13 @@ same-length : tie.Need-same-length
 same-length c = search needs
 
 returns-2 : tie.Need-returns-2
+unfolding sent packet
 returns-2 c =
     let w = c .before .before in
     let test = w .before .before .before .before in
     let n = test .before in
     let p = n .before in
-    let r = p .before .before .before in
-    let a = r .before .before .before .args in
-    sent-all (a .serializer) (a .message) (a .payload .now) (a .output .now) (a .size-after) (p .plan-packet .result) (plan p) (n .bytes-needed .result) (r .row-of .result) (w .write-packet .last .1 .1 .1 .1 .0) (n .bytes-needed .ensures) (test .if1 .left) (r .row-of .ensures) (w .write-packet .ensures)
+    simp (← needed n, le-ltb _ _ (test .if1 .left), w .write-packet .ensures, plan p, p .before .before .before .row-of .ensures)
 
 pub send-spec : {M : Type 1} → statement M
 send-spec =

@@ -1,28 +1,22 @@
 -- Refused by its payload's length, or measured as it is planned.
 use Prim.Native.Nat.{ℕ}
-use mathlib.Core.Path.{_≡_, ap, _∙_}
+use mathlib.Core.Path.{ap}
 use native.Mathlib.Omega.{arith}
-use lib.ListN.{length}
-use Rattle.serializer.specs.declared.format.Message.{Message}
-use Rattle.serializer.specs.declared.plan.Plan.{Plan}
-use Rattle.serializer.specs.Message.{message}
-use Rattle.serializer.specs.Serialize.{planned, previous}
-use Rattle.serializer.proofs.Sent.{plan-packet, needed-1, needed-2, needed-all}
 use borrow.Author.Needs.{needs}
+use borrow.Author.Tests.{eq-eqb, ne-eqb, lt-ltb, le-ltb}
+use Rattle.serializer.specs.declared.plan.Plan.{Plan}
+use Rattle.serializer.specs.Packet.{packet}
+use Rattle.serializer.specs.Serialize.{needed}
 use Rattle.serializer.proofs.ChunkSerializer.packet_length.Statement.{statement}
 use Rattle.serializer.proofs.ChunkSerializer.packet_length.Tie as tie
 
 returns : tie.Need-returns
-returns c =
-    let a = c .before .before .args in
-    let m = message (a .type-id) (a .stream-id) (a .timestamp .value) (length (a .payload .now)) (a .force-uncompressed) (a .can-be-dropped) in
-    needed-1 (a .self) m (a .payload .now) (c .if1 .taken)
+unfolding needed
+returns c = simp (eq-eqb _ _ (c .if1 .taken))
 
 returns-2 : tie.Need-returns-2
-returns-2 c =
-    let a = c .before .before .before .args in
-    let m = message (a .type-id) (a .stream-id) (a .timestamp .value) (length (a .payload .now)) (a .force-uncompressed) (a .can-be-dropped) in
-    needed-2 (a .self) m (a .payload .now) (c .before .if1 .left) (c .if2 .taken)
+unfolding needed
+returns-2 c = simp (ne-eqb _ _ (c .before .if1 .left), lt-ltb _ _ (c .if2 .taken))
 
 cast-message : tie.Need-cast-message
 cast-message c = search needs
@@ -37,15 +31,10 @@ bytes-needed-requires : tie.Need-bytes-needed-requires
 bytes-needed-requires c κs = (omega arith, omega arith, rw (ap (λ (p : Plan). p .size) (c .plan-for .ensures)) (omega arith))
 
 returns-3 : tie.Need-returns-3
+unfolding needed packet
 returns-3 c =
-    let a = c .before .before .before .before .before .before .args in
-    let m = message (a .type-id) (a .stream-id) (a .timestamp .value) (length (a .payload .now)) (a .force-uncompressed) (a .can-be-dropped) in
-    let p = c .before .plan-for in
-    let plan : p .result ≡ planned m (previous (a .self) m) (a .self .«max_chunk_size») =
-    p .ensures ∙ ap (λ (x : Message). planned x (previous (a .self) x) (a .self .«max_chunk_size»)) (c .before .before .message .ensures)
-    in
-    needed-all (a .self) m (a .payload .now) (c .before .before .before .before .if1 .left) (c .before .before .before .if2 .left) (c .bytes-needed .result)
-    (c .bytes-needed .ensures ∙ ap length (plan-packet (a .self) m (a .payload .now) (p .result) plan))
+    let test = c .before .before .before in
+    simp (ne-eqb _ _ (test .before .if1 .left), le-ltb _ _ (test .if2 .left), c .bytes-needed .ensures, c .before .plan-for .ensures, c .before .before .message .ensures)
 
 pub packet-length-spec : {M : Type 1} → statement M
 packet-length-spec =
