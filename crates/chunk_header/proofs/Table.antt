@@ -1,10 +1,10 @@
 -- There are four chunk types and four fields of 11 bytes at most, and the type is the top two bits.
-use Prim.Native.Nat.{ℕ, _/_, _<_, _≤_}
+use Prim.Native.Nat.{ℕ, zero, suc, _+_, _*_, _/_, _<_, _≤_}
 use mathlib.Core.Path.{_≡_, refl}
-use mathlib.Core.Bool.{Bool, true, false, cond}
+use mathlib.Core.List.{[], _∷_}
 use native.Mathlib.Omega.{arith}
-use borrow.Author.Tests.{ltb-true, ltb-false}
-use lib.Dec.{ltb, lit<, lit≤}
+use lib.Dec.{lit<, lit≤}
+use lib.ListN.{getD}
 use Rattle.chunk_header.specs.declared.ChunkHeaderFormat.{ChunkHeaderFormat}
 use Rattle.chunk_header.specs.declared.ChunkHeaderFormat.the-variants.{Full, TimeDeltaWithoutMessageStreamId, TimeDeltaOnly, Empty}
 use Rattle.chunk_header.specs.declared.HeaderField.{HeaderField}
@@ -33,17 +33,24 @@ header-most Empty = lit≤ tt
 
 pub type-of-byte : (byte : ℕ) → byte < 256 → typeOf (formatOf byte) ≡ byte / 64
 unfolding formatOf
-type-of-byte byte h = go (ltb byte 64) (ltb byte 128) (ltb byte 192) refl refl refl
+type-of-byte byte h = go (byte / 64) (omega arith)
   where
-    go : (a b c : Bool) → ltb byte 64 ≡ a → ltb byte 128 ≡ b → ltb byte 192 ≡ c
-        → typeOf (cond a Full (cond b TimeDeltaWithoutMessageStreamId (cond c TimeDeltaOnly Empty))) ≡ byte / 64
-    go true b c p q r = let x = ltb-true byte 64 p in omega arith
-    go false true c p q r =
-        let x = ltb-false byte 64 p in
-        let y = ltb-true byte 128 q in
-        omega arith
-    go false false true p q r =
-        let y = ltb-false byte 128 q in
-        let z = ltb-true byte 192 r in
-        omega arith
-    go false false false p q r = let z = ltb-false byte 192 r in omega arith
+    go : (type : ℕ) → type < 4 → typeOf (getD (Full ∷ TimeDeltaWithoutMessageStreamId ∷ TimeDeltaOnly ∷ []) type Empty) ≡ type
+    go zero h = refl
+    go (suc zero) h = refl
+    go (suc (suc zero)) h = refl
+    go (suc (suc (suc zero))) h = refl
+    go (suc (suc (suc (suc n)))) h = absurd (omega arith)
+
+-- whatever the low six
+pub format-back : (f : ChunkHeaderFormat) (low : ℕ) → low < 64 → formatOf (64 * typeOf f + low) ≡ f
+unfolding formatOf
+format-back f low h =
+    let top : (64 * typeOf f + low) / 64 ≡ typeOf f = omega arith in
+    rw top (go f)
+  where
+    go : (f : ChunkHeaderFormat) → getD (Full ∷ TimeDeltaWithoutMessageStreamId ∷ TimeDeltaOnly ∷ []) (typeOf f) Empty ≡ f
+    go Full = refl
+    go TimeDeltaWithoutMessageStreamId = refl
+    go TimeDeltaOnly = refl
+    go Empty = refl

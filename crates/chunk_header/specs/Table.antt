@@ -1,10 +1,9 @@
 -- Field lengths by chunk type (document 01, "A chunk on the wire").
-use Prim.Native.Nat.{ℕ, _+_}
+use Prim.Native.Nat.{ℕ, _+_, _/_}
 use mathlib.Core.Bool.{Bool, true, false, cond}
-use mathlib.Core.List.{[], _∷_}
-use lib.Dec.{ltb, leb}
+use mathlib.Core.List.{List, [], _∷_}
+use lib.Dec.{leb}
 use lib.ListN.{getD}
-use Rattle.fields.specs.Cases.{_when_, first}
 use Rattle.chunk_header.specs.declared.ChunkHeaderFormat.{ChunkHeaderFormat}
 use Rattle.chunk_header.specs.declared.ChunkHeaderFormat.the-variants.{Full, TimeDeltaWithoutMessageStreamId, TimeDeltaOnly, Empty}
 use Rattle.chunk_header.specs.declared.HeaderField.{HeaderField}
@@ -32,7 +31,7 @@ isEmpty Empty = true
 
 -- "the top two bits are the type"
 unfoldable pub formatOf : ℕ → ChunkHeaderFormat
-formatOf byte = first (Full when ltb byte 64 ∷ TimeDeltaWithoutMessageStreamId when ltb byte 128 ∷ TimeDeltaOnly when ltb byte 192 ∷ []) Empty
+formatOf byte = getD (Full ∷ TimeDeltaWithoutMessageStreamId ∷ TimeDeltaOnly ∷ []) (byte / 64) Empty
 
 -- the fields in their order
 abbrev pub indexOf : HeaderField → ℕ

@@ -4,14 +4,13 @@ use mathlib.Core.Path.{_≡_, refl, _∙_}
 use mathlib.Core.List.{List, [], _∷_, _++_}
 use native.Mathlib.Omega.{arith}
 use lib.ListN.{length}
-use borrow.Author.Tests.{lt-ltb, le-ltb}
 use Rattle.fields.specs.Endian.{littleEndian}
 use Rattle.chunk_header.specs.declared.ChunkHeaderFormat.{ChunkHeaderFormat}
-use Rattle.chunk_header.specs.declared.ChunkHeaderFormat.the-variants.{Full, TimeDeltaWithoutMessageStreamId, TimeDeltaOnly, Empty}
 use Rattle.chunk_header.specs.declared.Csid.the-variants.{Id}
 use Rattle.chunk_header.specs.Basic.{csid}
 use Rattle.chunk_header.specs.Layout.{Form, one, two, three, basicBytes}
-use Rattle.chunk_header.specs.Table.{formatOf, typeOf}
+use Rattle.chunk_header.specs.Table.{typeOf}
+use Rattle.chunk_header.proofs.Table.{format-back}
 use Rattle.chunk_header.proofs.Basic.{csid-one, csid-one-short, csid-small, csid-zero, csid-zero-short}
 use Rattle.deserializer.specs.declared.ChunkDeserializer.{ChunkDeserializer}
 use Rattle.byte_machine.specs.declared.reader.Reader.{Reader}
@@ -22,16 +21,6 @@ use Rattle.byte_machine.specs.Step.{basic, named}
 use Rattle.byte_machine.specs.Reader.{at}
 use Rattle.deserializer.proofs.Fields.{Reaches}
 use Rattle.deserializer.proofs.Runs.{holding, run-header}
-
--- the type is the two high bits, whatever the low six
-format-back : (f : ChunkHeaderFormat) (low : ℕ) → low < 64 → formatOf (64 * typeOf f + low) ≡ f
-unfolding formatOf
-format-back Full low h = rw (lt-ltb (64 * 0 + low) 64 (omega arith))
-format-back TimeDeltaWithoutMessageStreamId low h = rw (le-ltb (64 * 1 + low) 64 (omega arith), lt-ltb (64 * 1 + low) 128 (omega arith))
-format-back TimeDeltaOnly low h =
-    rw (le-ltb (64 * 2 + low) 64 (omega arith), le-ltb (64 * 2 + low) 128 (omega arith), lt-ltb (64 * 2 + low) 192 (omega arith))
-format-back Empty low h =
-    rw (le-ltb (64 * 3 + low) 64 (omega arith), le-ltb (64 * 3 + low) 128 (omega arith), le-ltb (64 * 3 + low) 192 (omega arith))
 
 low-bits : (t low : ℕ) → low < 64 → (64 * t + low) % 64 ≡ low
 low-bits t low h = omega arith
