@@ -12,7 +12,7 @@ use borrow.Author.Tests.{ltb-true, ltb-false}
 use Rattle.chunk_header.specs.declared.ChunkHeader.{ChunkHeader}
 use Rattle.chunk_header.specs.declared.ChunkHeaderFormat.{ChunkHeaderFormat}
 use Rattle.chunk_header.specs.Layout.{chunkBytes}
-use Rattle.serializer.specs.Packet.{chunk, chunksOf, joined, pieces}
+use Rattle.serializer.specs.Packet.{chunk, chunked, chunksOf, joined, pieces}
 use Rattle.serializer.proofs.Pieces.{pieces-step, pieces-none}
 
 abbrev pub later : ChunkHeaderFormat → ChunkHeader → ℕ → List ℕ → List ℕ
@@ -51,10 +51,6 @@ drop-least size xs = go (ltb size (length xs)) refl
         let more = ltb-false size (length xs) e in
         let same : min size (length xs) ≡ length xs = omega arith in
         rw (same, drop-of-length-le xs {i = length xs} (omega arith), drop-of-length-le xs {i = size} more)
-
--- the chunks of a payload, the first in a format of its own
-abbrev pub chunked : ChunkHeaderFormat → ChunkHeaderFormat → ChunkHeader → ℕ → List ℕ → List ℕ
-chunked f g h size payload = joined (chunksOf f g h (pieces size payload))
 
 chunked-same : (g : ChunkHeaderFormat) (h : ChunkHeader) (ps : List (List ℕ)) → chunksOf g g h ps ≡ map (chunk g h) ps
 chunked-same g h [] = refl

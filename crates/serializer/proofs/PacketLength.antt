@@ -8,7 +8,7 @@ use lib.ListN.{length, take, drop, length-append, length-drop, take-append-drop}
 use Rattle.chunk_header.specs.declared.ChunkHeader.{ChunkHeader}
 use Rattle.chunk_header.specs.declared.ChunkHeaderFormat.{ChunkHeaderFormat}
 use Rattle.chunk_header.specs.Layout.{chunkBytes}
-use Rattle.serializer.specs.Packet.{chunk, chunksOf, cut, joined, pieces}
+use Rattle.serializer.specs.Packet.{chunk, chunked, cut, joined, pieces}
 use Rattle.serializer.proofs.Chunk.{chunk-split}
 use Rattle.serializer.proofs.Pieces.{rounded-up, rounded-covers}
 
@@ -31,7 +31,7 @@ length-later f h (suc n) size xs k =
     (omega (arith, length-halves size xs))
 
 pub length-packet : (f g : ChunkHeaderFormat) (h : ChunkHeader) (size : ℕ) (payload : List ℕ) → 0 < size → 0 < length payload
-    → length (joined (chunksOf f g h (pieces size payload))) ≡ head f h + (length payload - 1) / size * head g h + length payload
+    → length (chunked f g h size payload) ≡ head f h + (length payload - 1) / size * head g h + length payload
 unfolding pieces
 length-packet f g h size payload p q =
     let n = (length payload - 1) / size in

@@ -55,6 +55,10 @@ abbrev pub joined : List Chunk → List ℕ
 joined [] = []
 joined (c ∷ cs) = chunkBytes c ++ joined cs
 
+-- the bytes of a payload in chunks of a size, the first in a format of its own
+abbrev pub chunked : ChunkHeaderFormat → ChunkHeaderFormat → ChunkHeader → ℕ → List ℕ → List ℕ
+chunked first later h size payload = joined (chunksOf first later h (pieces size payload))
+
 -- the chunks of a message after what is remembered of its stream, at a chunk size
 abbrev pub chunks : ℕ → Message → List ℕ → ChunkHeader → List Chunk
 chunks size m payload previous =

@@ -4,7 +4,8 @@ ghost use mathlib.Core.List.{[]};
 ghost use Prim.Native.Nat.{_≤_, _<_};
 ghost use lib.ListN.{length};
 ghost use Rattle.chunk_header.specs.Layout.{chunkBytes, extendedBytes};
-ghost use Rattle.serializer.specs.Packet.{chunk, chunksOf, extended, joined, pieces};
+ghost use Rattle.chunk_header.specs.Limits.{maxLength};
+ghost use Rattle.serializer.specs.Packet.{chunk, chunked, extended};
 use chunk_header::ChunkHeader;
 use chunk_header::ChunkHeaderFormat;
 use chunk_header::MAX_INITIAL_TIMESTAMP;
@@ -35,8 +36,8 @@ pub fn packet_bytes(
     payload: &[u8],
     size: usize,
 ) -> usize
-    requires { ⌜ (0 < length (now payload)) × (length (now payload) ≤ 16777215) × (0 < size) ⌝ }
-    ensures { λ r. ⌜ r ≡ length (joined (chunksOf first later header (pieces size (now (payload .entry))))) ⌝ }
+    requires { ⌜ (0 < length (now payload)) × (length (now payload) ≤ maxLength) × (0 < size) ⌝ }
+    ensures { λ r. ⌜ r ≡ length (chunked first later header size (now (payload .entry))) ⌝ }
 {
     let more = (payload.len() - 1) / size;
     chunk_length(first, header) + more * chunk_length(later, header) + payload.len()

@@ -2,8 +2,7 @@
 ghost use mathlib.Core.Path.{_≡_};
 ghost use Prim.Native.Nat.{_≤_, _<_, max};
 ghost use lib.ListN.{length};
-ghost use Rattle.serializer.specs.Header.{firstChunk};
-ghost use Rattle.serializer.specs.Packet.{chunksOf, joined, laterFormat, pieces};
+ghost use Rattle.serializer.specs.Packet.{chunked};
 ghost use Rattle.serializer.specs.Remembered.{planned};
 ghost use Rattle.chunk_header.specs.Limits.{maxLength};
 use crate::format::FirstChunk;
@@ -46,7 +45,7 @@ pub fn plan_packet(message: Message, previous: ChunkHeader, max_chunk_size: u32)
 // The exact length of the packet.
 pub fn bytes_needed(plan: Plan, payload: &[u8]) -> usize
     requires { ⌜ (0 < length (now payload)) × (length (now payload) ≤ maxLength) × (0 < plan .size) ⌝ }
-    ensures { λ r. ⌜ r ≡ length (joined (chunksOf (plan .first .format) (plan .later) (plan .first .header) (pieces (plan .size) (now (payload .entry))))) ⌝ }
+    ensures { λ r. ⌜ r ≡ length (chunked (plan .first .format) (plan .later) (plan .first .header) (plan .size) (now (payload .entry))) ⌝ }
 {
     let first = plan.first;
     let format = first.format;

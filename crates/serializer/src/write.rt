@@ -7,7 +7,7 @@ ghost use Rattle.fields.specs.Endian.{bigEndian, littleEndian};
 ghost use Rattle.fields.specs.Output.{Adds, over};
 ghost use Rattle.chunk_header.specs.Layout.{chunkBytes, extendedBytes, headerBytes};
 ghost use Rattle.chunk_header.specs.Table.{headerLength, typeOf};
-ghost use Rattle.serializer.specs.Packet.{chunk, chunksOf, extended, joined, messageHeader, pieces};
+ghost use Rattle.serializer.specs.Packet.{chunk, chunked, extended, messageHeader};
 ghost use Rattle.chunk_header.specs.Limits.{maxField};
 use crate::format::FirstChunk;
 use chunk_header::ChunkHeader;
@@ -144,8 +144,8 @@ pub fn write_packet(
     size: usize,
     output: &mut [u8],
 )
-    requires { ⌜ (first .header .«chunk_stream_id» < 64) × (0 < size) × (length (joined (chunksOf (first .format) later (first .header) (pieces size (now payload)))) ≤ length (now output)) ⌝ }
-    ensures { λ _. ⌜ now (output .exit) ≡ over (joined (chunksOf (first .format) later (first .header) (pieces size (now (payload .entry))))) (now (output .entry)) ⌝ }
+    requires { ⌜ (first .header .«chunk_stream_id» < 64) × (0 < size) × (length (chunked (first .format) later (first .header) size (now payload)) ≤ length (now output)) ⌝ }
+    ensures { λ _. ⌜ now (output .exit) ≡ over (chunked (first .format) later (first .header) size (now (payload .entry))) (now (output .entry)) ⌝ }
 {
     let header = first.header;
     let mut format = first.format;

@@ -1,10 +1,12 @@
 -- Planned, measured and written as the definition has it.
 use Prim.Native.Nat.{ℕ, _<_, max}
-use mathlib.Core.Path.{_≡_, ap, _∙_}
+use mathlib.Core.Path.{_≡_, refl, ap, _∙_}
+use mathlib.Core.List.{List}
 use native.Mathlib.Omega.{arith}
 use lib.ListN.{length}
+use Rattle.fields.specs.Output.{over}
 use Rattle.serializer.specs.declared.plan.Plan.{Plan}
-use Rattle.serializer.specs.Packet.{packet}
+use Rattle.serializer.specs.Packet.{chunked, packet}
 use Rattle.serializer.specs.Remembered.{packetOf, planned, previous}
 use Rattle.serializer.specs.Serialize.{sent}
 use Rattle.serializer.proofs.Stream.{stream-range}
@@ -17,17 +19,33 @@ use Rattle.serializer.proofs.send.Tie as tie
 row : (c : tie.After-row-of) → c .row-of .result < 5
 row c = omega (arith, c .row-of .ensures, stream-range (c .before .before .before .args .message .«type_id»))
 
+abbrev start : tie.After-plan-packet → tie.Start
+start c = c .before .before .before .before .before .before
+
 -- the plan is that of the message after what is remembered of its stream
 plan : (c : tie.After-plan-packet) → let a = c .before .before .before .before .before .before .args in c .plan-packet .result ≡ planned (a .message) (previous (a .serializer) (a .message)) (a .serializer .«max_chunk_size»)
 plan c = rw (c .plan-packet .ensures, c .before .before .before .row-of .ensures)
 
-size : (c : tie.After-plan-packet) → c .plan-packet .result .size ≡ max 1 (c .before .before .before .before .before .before .args .serializer .«max_chunk_size»)
+size : (c : tie.After-plan-packet) → c .plan-packet .result .size ≡ max 1 (start c .args .serializer .«max_chunk_size»)
 size c = ap (λ (p : Plan). p .size) (plan c)
 
--- and what it takes is the length of the definition's packet
-needed : (c : tie.After-bytes-needed) → let a = c .before .before .before .before .before .before .before .args in c .bytes-needed .result ≡ length (packetOf (a .serializer) (a .message) (a .payload .now))
+-- and its bytes are the definition's packet
+abbrev bytes : Plan → List ℕ → List ℕ
+bytes p payload = chunked (p .first .format) (p .later) (p .first .header) (p .size) payload
+
+packet-of : (c : tie.After-plan-packet) → let a = start c .args in bytes (c .plan-packet .result) (a .payload .now) ≡ packetOf (a .serializer) (a .message) (a .payload .now)
 unfolding packet
-needed c = c .bytes-needed .ensures ∙ rw (plan (c .before))
+packet-of c = ap (λ (p : Plan). bytes p (start c .args .payload .now)) (plan c)
+
+-- which was measured ..
+needed : (c : tie.After-bytes-needed) → let a = start (c .before) .args in c .bytes-needed .result ≡ length (packetOf (a .serializer) (a .message) (a .payload .now))
+needed c = c .bytes-needed .ensures ∙ ap length (packet-of (c .before))
+
+-- .. and written
+written : (c : tie.After-write-packet) → let a = start (c .before .before .before .before .before .before) .args in c .write-packet .last .1 .1 .1 .1 .0 ≡ over (packetOf (a .serializer) (a .message) (a .payload .now)) (a .output .now)
+written c =
+    let p = c .before .before .before .before .before .before in
+    c .write-packet .ensures ∙ ap (λ (l : List ℕ). over l (start p .args .output .now)) (packet-of p)
 
 row-of-requires : tie.Need-row-of-requires
 row-of-requires c κs = search needs
@@ -43,12 +61,14 @@ plan-packet-requires c κs = search needs
 
 bytes-needed-requires : tie.Need-bytes-needed-requires
 bytes-needed-requires c κs =
-    let start = c .before .before .before .before .before .before in
-    (start .pre .0, start .pre .1, rw (size c) (omega arith))
+    let s = start c in
+    (s .pre .0, s .pre .1, rw (size c) (omega arith))
 
 returns : tie.Need-returns
 unfolding sent
-returns c = simp (← needed (c .before), lt-ltb _ _ (c .if1 .taken))
+returns c =
+    let n = c .before in
+    rw (← needed n, lt-ltb (length (start (n .before) .args .output .now)) (n .bytes-needed .result) (c .if1 .taken)) refl
 
 mul-headers : tie.Need-mul-headers
 mul-headers c = omega (arith, row (c .before .before .before .before .before .before .before))
@@ -60,9 +80,8 @@ write-packet-requires : tie.Need-write-packet-requires
 write-packet-requires c κs =
     let n = c .before .before .before .before in
     let p = n .before in
-    let start = p .before .before .before .before .before .before in
     let stream = ap (λ (q : Plan). q .first .header .«chunk_stream_id») (plan p) in (
-      omega (arith, stream, stream-range (start .args .message .«type_id»)),
+      omega (arith, stream, stream-range (start p .args .message .«type_id»)),
       rw (size p) (omega arith),
       omega (arith, n .bytes-needed .ensures, c .before .before .before .if1 .left),
     )
@@ -71,13 +90,14 @@ same-length : tie.Need-same-length
 same-length c = search needs
 
 returns-2 : tie.Need-returns-2
-unfolding sent packet
+unfolding sent
 returns-2 c =
     let w = c .before .before in
     let test = w .before .before .before .before in
     let n = test .before in
     let p = n .before in
-    simp (← needed n, le-ltb _ _ (test .if1 .left), w .write-packet .ensures, plan p, p .before .before .before .row-of .ensures)
+    let long = le-ltb (length (start p .args .output .now)) (n .bytes-needed .result) (test .if1 .left) in
+    simp (written w, ← needed n, long, plan p, p .before .before .before .row-of .ensures) refl
 
 pub send-spec : {M : Type 1} → statement M
 send-spec =

@@ -4,6 +4,7 @@ use mathlib.Core.Path.{sym}
 use native.Mathlib.Nat.{mul-le-mul, div-le-self}
 use native.Mathlib.Omega.{arith}
 use lib.ListN.{length}
+use Rattle.chunk_header.specs.Limits.{maxLength}
 use Rattle.serializer.proofs.Chunk.{head-most}
 use Rattle.serializer.proofs.PacketLength.{length-packet}
 use borrow.Author.Needs.{needs}
@@ -14,10 +15,10 @@ abbrev start : tie.After-chunk-length2 → tie.Start
 start c = c .before .before .before
 
 -- the heads of the later chunks
-heads : (c : tie.After-chunk-length2) → (length (start c .args .payload .now) - 1) / start c .args .size * c .chunk-length2 .result ≤ 16777215 * 16
+heads : (c : tie.After-chunk-length2) → (length (start c .args .payload .now) - 1) / start c .args .size * c .chunk-length2 .result ≤ maxLength * 16
 heads c =
     let a = start c .args in
-    let less : (length (a .payload .now) - 1) / a .size ≤ 16777215 = omega (arith, div-le-self (length (a .payload .now) - 1) (a .size)) in
+    let less : (length (a .payload .now) - 1) / a .size ≤ maxLength = omega (arith, div-le-self (length (a .payload .now) - 1) (a .size)) in
     mul-le-mul {m₂ = 16} less (omega (arith, c .chunk-length2 .ensures, head-most (a .later) (a .header)))
 
 sub-more : tie.Need-sub-more

@@ -7,16 +7,16 @@ use lib.ListN.{length, take, drop, length-append, drop-of-length-le}
 use Rattle.chunk_header.specs.Layout.{chunkBytes}
 use Rattle.fields.specs.Output.{stored}
 use Rattle.fields.proofs.Lists.{stored-append, stored-nil, stored-over}
-use Rattle.serializer.specs.Packet.{chunk}
-use Rattle.serializer.proofs.Later.{chunked, chunked-none, chunked-piece}
+use Rattle.serializer.specs.Packet.{chunk, chunked}
+use Rattle.serializer.proofs.Later.{chunked-none, chunked-piece}
 use Rattle.serializer.proofs.write.write_packet.Statement.{statement}
 use Rattle.serializer.proofs.write.write_packet.Tie as tie
 
 abbrev Inv-loop : tie.InvT-loop
 Inv-loop later payload size output₀ header format₀ at₀ from₀ output format at from =
-    (at + length (chunked format later header size (drop from payload)) ≤ length output)
+    (stored output at (chunked format later header size (drop from payload)) ≡ stored output₀ 0 (chunked format₀ later header size payload))
+    × (at + length (chunked format later header size (drop from payload)) ≤ length output)
     × (length output ≡ length output₀)
-    × (stored output at (chunked format later header size (drop from payload)) ≡ stored output₀ 0 (chunked format₀ later header size payload))
     × (header .«chunk_stream_id» < 64) × (0 < size)
 
 abbrev μ-loop : tie.MeasureT-loop
@@ -48,7 +48,7 @@ piece c =
 loop-holds : tie.Need-loop-holds Inv-loop μ-loop
 loop-holds c =
     let pre = c .before .before .before .pre in
-    (omega (arith, pre .2), refl, refl, pre .0, pre .1)
+    (refl, omega (arith, pre .2), refl, pre .0, pre .1)
 
 sub-least : tie.Need-sub-least Inv-loop μ-loop
 sub-least c = omega arith
@@ -72,7 +72,7 @@ add-chunk-requires : tie.Need-add-chunk-requires Inv-loop μ-loop
 add-chunk-requires c κs =
     let m = c .before .before in
     let l = m .before .before .loop in
-    (l .inv .3, omega (arith, l .inv .0, ap length (piece m), length-append (bytes m) (rest m)))
+    (l .inv .3, omega (arith, l .inv .1, ap length (piece m), length-append (bytes m) (rest m)))
 
 add-from : tie.Need-add-from Inv-loop μ-loop
 add-from c = omega arith
@@ -85,19 +85,19 @@ loop-again c =
     let s = c .before .before .add-chunk in
     let m = c .before .before .before .before .before in
     let l = m .before .before .loop in
-    let fits : s .result + length (rest m) ≤ length (l .output) = omega (arith, s .ensures .place, ap length (piece m), length-append (bytes m) (rest m), l .inv .0) in (
-      omega (arith, fits, s .kept .0),
-      s .kept .0 ∙ l .inv .1,
+    let fits : s .result + length (rest m) ≤ length (l .output) = omega (arith, s .ensures .place, ap length (piece m), length-append (bytes m) (rest m), l .inv .1) in (
       ap (λ (o : List ℕ). stored o (s .result) (rest m)) (s .ensures .left)
           ∙ stored-append (l .output) (bytes m) (rest m) (l .at) (s .result) (s .ensures .place) fits
           ∙ ap (stored (l .output) (l .at)) (sym (piece m))
-          ∙ l .inv .2,
+          ∙ l .inv .0,
+      omega (arith, fits, s .kept .0),
+      s .kept .0 ∙ l .inv .2,
       l .inv .3,
       l .inv .4,
     )
 
 same-length : tie.Need-same-length Inv-loop μ-loop
-same-length c = c .before .loop .inv .1
+same-length c = c .before .loop .inv .2
 
 returns : tie.Need-returns Inv-loop μ-loop
 returns c =
@@ -109,7 +109,7 @@ returns c =
     let none = ap (chunked (l .loop .format) (a .later) h (a .size)) (drop-of-length-le (a .payload .now) {i = l .loop .from} (c .loop-test .left)) ∙ chunked-none (l .loop .format) (a .later) h (a .size) (l .loop .inv .4) in
     sym (stored-nil (l .loop .output) (l .loop .at))
     ∙ ap (stored (l .loop .output) (l .loop .at)) (sym none)
-    ∙ l .loop .inv .2
+    ∙ l .loop .inv .0
     ∙ stored-over [] all (a .output .now) 0 refl (omega (arith, entry .pre .2))
 
 pub write-packet-spec : {M : Type 1} → statement M
