@@ -1,4 +1,4 @@
--- The header of a stream of which nothing is remembered.
+-- The header of a stream of which nothing is remembered: no stream has the id 0.
 use mathlib.Core.Bool.{false}
 use Rattle.chunk_header.specs.declared.ChunkHeader.{ChunkHeader}
 

@@ -1,7 +1,7 @@
--- Field lengths by chunk type (document 01, "A chunk on the wire").
+-- The four chunk types, and how long each header field is in a chunk of each (document 01, "A chunk on the wire").
 use Prim.Native.Nat.{ℕ, _+_, _/_}
 use mathlib.Core.Bool.{Bool, true, false, cond}
-use mathlib.Core.List.{List, [], _∷_}
+use mathlib.Core.List.{[], _∷_}
 use lib.Dec.{leb}
 use lib.ListN.{getD}
 use Rattle.chunk_header.specs.declared.ChunkHeaderFormat.{ChunkHeaderFormat}

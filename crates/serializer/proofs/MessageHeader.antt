@@ -1,5 +1,5 @@
 -- A message header is its format's fields, one straight after the other.
-use Prim.Native.Nat.{ℕ, _+_, _≤_, min}
+use Prim.Native.Nat.{ℕ, _+_, _≤_}
 use mathlib.Core.Path.{_≡_, refl, sym, ap, _∙_}
 use mathlib.Core.List.{List, _++_, append-assoc}
 use native.Mathlib.Omega.{arith}
@@ -12,12 +12,11 @@ use Rattle.chunk_header.specs.Table.{typeOf, fieldLength, headerLength}
 use Rattle.fields.specs.Endian.{bigEndian, littleEndian}
 use Rattle.fields.specs.Output.{Adds}
 use Rattle.fields.proofs.Lists.{adds-none, adds-same, adds-then}
-use Rattle.serializer.specs.Packet.{messageHeader}
-use Rattle.chunk_header.specs.Limits.{maxField}
+use Rattle.serializer.specs.Packet.{initialTime, messageHeader}
 
 -- the fields, as the encoder has them
 abbrev pub timeBytes : ChunkHeader → List ℕ
-timeBytes h = bigEndian 3 (min (h .«timestamp_field») maxField)
+timeBytes h = bigEndian 3 (initialTime (h .«timestamp_field»))
 
 abbrev pub lengthTypeBytes : ChunkHeader → List ℕ
 lengthTypeBytes h = bigEndian 3 (h .«message_length») ++ bigEndian 1 (h .«message_type_id»)

@@ -1,15 +1,15 @@
 -- A payload in pieces: how many there are, what each step takes off, and how long the chunks of all of them are.
-use Prim.Native.Nat.{ℕ, zero, suc, _+_, _-_, _*_, _/_, _≤_, _<_}
-use mathlib.Core.Path.{_≡_, refl, sym, ap, _∙_}
-use mathlib.Core.List.{List, [], _∷_, _++_, map}
+use Prim.Native.Nat.{ℕ, suc, _+_, _-_, _*_, _/_, _≤_, _<_}
+use mathlib.Core.Path.{_≡_, refl}
+use mathlib.Core.List.{List, [], _∷_}
 use native.Mathlib.Nat.{add-div-right, lt-div-mul-add, suc-mul, div-eq-of-lt}
 use native.Mathlib.Omega.{arith}
 use native.Mathlib.Numerals.{add-one}
 use mathlib.Core.Bool.{Bool, true, false}
 use lib.Dec.{ltb}
 use borrow.Author.Tests.{ltb-true, ltb-false}
-use lib.ListN.{length, take, drop, length-append, length-take, length-drop}
-use Rattle.serializer.specs.Packet.{roundedUp, cut, pieces}
+use lib.ListN.{length, take, drop, length-drop}
+use Rattle.serializer.specs.Packet.{roundedUp, pieces}
 
 -- one, and one more for each whole chunk size in what lies before the last byte
 pub rounded-up : (n size : ℕ) → 0 < n → 0 < size → roundedUp n size ≡ suc ((n - 1) / size)

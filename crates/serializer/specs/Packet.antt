@@ -16,10 +16,14 @@ use Rattle.serializer.specs.declared.format.Message.{Message}
 abbrev pub extended : ℕ → Extended
 extended time = cond (ltb time maxField) absent (present time)
 
+-- the 24-bit field: a time of 16777215 or more is sent as 16777215 (5.3.1.2)
+abbrev pub initialTime : ℕ → ℕ
+initialTime time = min time maxField
+
 abbrev pub messageHeader : ChunkHeaderFormat → ChunkHeader → Header
-messageHeader Full h = type0 (min (h .«timestamp_field») maxField) (h .«message_length») (h .«message_type_id») (h .«message_stream_id»)
-messageHeader TimeDeltaWithoutMessageStreamId h = type1 (min (h .«timestamp_field») maxField) (h .«message_length») (h .«message_type_id»)
-messageHeader TimeDeltaOnly h = type2 (min (h .«timestamp_field») maxField)
+messageHeader Full h = type0 (initialTime (h .«timestamp_field»)) (h .«message_length») (h .«message_type_id») (h .«message_stream_id»)
+messageHeader TimeDeltaWithoutMessageStreamId h = type1 (initialTime (h .«timestamp_field»)) (h .«message_length») (h .«message_type_id»)
+messageHeader TimeDeltaOnly h = type2 (initialTime (h .«timestamp_field»))
 messageHeader Empty h = type3
 
 abbrev pub chunk : ChunkHeaderFormat → ChunkHeader → List ℕ → Chunk

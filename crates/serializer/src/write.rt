@@ -7,8 +7,7 @@ ghost use Rattle.fields.specs.Endian.{bigEndian, littleEndian};
 ghost use Rattle.fields.specs.Output.{Adds, over};
 ghost use Rattle.chunk_header.specs.Layout.{chunkBytes, extendedBytes, headerBytes};
 ghost use Rattle.chunk_header.specs.Table.{headerLength, typeOf};
-ghost use Rattle.serializer.specs.Packet.{chunk, chunked, extended, messageHeader};
-ghost use Rattle.chunk_header.specs.Limits.{maxField};
+ghost use Rattle.serializer.specs.Packet.{chunk, chunked, extended, initialTime, messageHeader};
 use crate::format::FirstChunk;
 use chunk_header::ChunkHeader;
 use chunk_header::ChunkHeaderFormat;
@@ -26,7 +25,7 @@ fn least(a: usize, b: usize) -> usize
 
 // The 24-bit field of a time.
 fn initial_timestamp(timestamp_field: u32) -> u32
-    ensures { λ r. ⌜ r ≡ min «timestamp_field» maxField ⌝ }
+    ensures { λ r. ⌜ r ≡ initialTime «timestamp_field» ⌝ }
 {
     if timestamp_field < MAX_INITIAL_TIMESTAMP {
         return timestamp_field;
@@ -45,7 +44,7 @@ fn add_field(output: &mut [u8], at: usize, value: u32, width: usize) -> usize
 
 fn add_initial_timestamp(output: &mut [u8], at: usize, header: ChunkHeader) -> usize
     requires { ⌜ at + 3 ≤ length (now output) ⌝ }
-    ensures { λ r. ⌜ Adds (now (output .entry)) at (bigEndian 3 (min (header .«timestamp_field») maxField)) r (now (output .exit)) ⌝ }
+    ensures { λ r. ⌜ Adds (now (output .entry)) at (bigEndian 3 (initialTime (header .«timestamp_field»))) r (now (output .exit)) ⌝ }
 {
     let initial = initial_timestamp(header.timestamp_field);
     add_field(output, at, initial, 3)

@@ -1,15 +1,15 @@
 -- Reading what was written gives the event back whatever follows it, and writing what was read gives the body's own bytes:
 -- both go number by number, and a number by its four bytes.
 use Prim.Native.Nat.{ℕ, zero, suc, _+_, _*_, _^_, _≤_, _<_}
-use mathlib.Core.Path.{_≡_, refl, sym, ap, _∙_}
+use mathlib.Core.Path.{_≡_, refl, _∙_}
 use mathlib.Core.Bool.{Bool, true, false, not, cond, _&&_, _||_}
 use mathlib.Core.List.{List, [], _∷_, _++_, append-assoc}
 use native.Mathlib.Omega.{arith}
 use lib.Dec.{ltb, lit<}
-use lib.ListN.{length, take, drop, getD, length-append, length-take, length-drop}
+use lib.ListN.{length, take, drop, getD, length-append, length-drop}
 use lib.Seq.{take-at, drop-at, take-add}
 use borrow.Author.Tests.{ltb-false}
-use Rattle.fields.specs.Endian.{bigEndian, number, Bytes}
+use Rattle.fields.specs.Endian.{bigEndian, Bytes}
 use Rattle.fields.proofs.Endian.{length-big, number-big}
 use Rattle.fields.proofs.Lists.{bytes-drop, big-take}
 use Rattle.user_control.specs.declared.UserControlEvent.{UserControlEvent}
@@ -24,9 +24,9 @@ use Rattle.user_control.specs.declared.UserControlEvent.the-variants.{
   BufferEmpty,
   BufferReady,
 }
-use Rattle.user_control.specs.Body.{code, numbers, fours, bodyOf, body}
-use Rattle.user_control.specs.Answer.{Answer, event, refused}
-use Rattle.user_control.specs.Reading.{codeIn, numbersIn, known, count, bodyLength, short, reading}
+use Rattle.user_control.specs.Body.{code, numbers, fours, body}
+use Rattle.user_control.specs.Answer.{event, refused}
+use Rattle.user_control.specs.Reading.{codeIn, numbersIn, known, count, bodyLength, reading}
 use Rattle.user_control.proofs.Reading.{reads-event}
 
 length-fours : (ns : List ℕ) → length (fours ns) ≡ 4 * length ns

@@ -1,7 +1,6 @@
 // The bodies as they are written: a code, then its numbers.
 ghost use mathlib.Core.Path.{_≡_};
-ghost use mathlib.Core.List.{[], _∷_, _++_};
-ghost use Rattle.fields.specs.Endian.{bigEndian};
+ghost use mathlib.Core.List.{[], _∷_};
 ghost use Rattle.user_control.specs.Body.{bodyOf};
 ghost use Rattle.user_control.specs.Reading.{lengthOr0};
 ghost use Rattle.user_control.specs.Writing.{Writes};

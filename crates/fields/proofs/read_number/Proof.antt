@@ -1,9 +1,9 @@
 -- The invariant: the value is what the bytes passed so far mean. One more byte multiplies it by 256 and is added.
-use Prim.Native.Nat.{ℕ, _≤_, _<_, _+_, _-_, _*_, _%_, _^_}
+use Prim.Native.Nat.{_≤_, _<_, _-_, _%_, _^_}
 use mathlib.Core.Path.{_≡_, refl, _∙_}
 use native.Mathlib.Omega.{arith}
 use borrow.Author.Needs.{needs}
-use lib.ListN.{length, take, getD}
+use lib.ListN.{length, take}
 use lib.Seq.{take-length}
 use Rattle.fields.specs.Endian.{number, gather}
 use Rattle.fields.proofs.Endian.{number-more}

@@ -1,9 +1,8 @@
 -- The invariant: from i on the output holds the last bytes of the value, and rest is what is left of it above them.
-use Prim.Native.Nat.{ℕ, suc, _≤_, _<_, _+_, _-_, _*_, _/_, _%_, _^_}
-use mathlib.Core.Path.{_≡_, refl, _∙_}
+use Prim.Native.Nat.{suc, _≤_, _-_, _/_, _%_, _^_}
+use mathlib.Core.Path.{_≡_, refl}
 use native.Mathlib.Omega.{arith}
-use borrow.Author.Needs.{needs}
-use lib.ListN.{length, take, drop, getD, length-set}
+use lib.ListN.{length, drop, length-set}
 use lib.Seq.{drop-length}
 use Rattle.fields.specs.Endian.{bigEndian}
 use Rattle.fields.proofs.Endian.{digit-rest, drop-set-before}

@@ -1,5 +1,4 @@
 -- Refused by its payload's length, or measured as it is planned.
-use Prim.Native.Nat.{ℕ}
 use mathlib.Core.Path.{ap}
 use native.Mathlib.Omega.{arith}
 use borrow.Author.Needs.{needs}

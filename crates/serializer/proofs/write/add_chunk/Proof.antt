@@ -1,9 +1,7 @@
 -- What comes before the payload, and the payload straight after it.
-use Prim.Native.Nat.{_+_}
-use mathlib.Core.Path.{_≡_, refl, sym}
-use mathlib.Core.List.{[], _++_}
+use mathlib.Core.Path.{refl, sym}
+use mathlib.Core.List.{[]}
 use native.Mathlib.Omega.{arith}
-use lib.ListN.{length, length-append}
 use Rattle.chunk_header.specs.Layout.{chunkBytes}
 use Rattle.fields.proofs.Lists.{adds-same, adds-then}
 use Rattle.serializer.specs.Packet.{chunk}
