@@ -26,31 +26,18 @@ pub later-none : (f : ChunkHeaderFormat) (h : ChunkHeader) (size : ℕ) → 0 < 
 later-none f h size p = rw (pieces-none size p)
 
 -- a piece is cut at the payload's end
-pub take-least : (size : ℕ) (xs : List ℕ) → take (min size (length xs)) xs ≡ take size xs
-take-least size xs = go (ltb size (length xs)) refl
+cut-least : (size : ℕ) (xs : List ℕ) → (take (min size (length xs)) xs ≡ take size xs) × (drop (min size (length xs)) xs ≡ drop size xs)
+cut-least size xs = go (ltb size (length xs)) refl
   where
-    go : (b : Bool) → ltb size (length xs) ≡ b → take (min size (length xs)) xs ≡ take size xs
+    go : (b : Bool) → ltb size (length xs) ≡ b → (take (min size (length xs)) xs ≡ take size xs) × (drop (min size (length xs)) xs ≡ drop size xs)
     go true e =
         let less = ltb-true size (length xs) e in
         let same : min size (length xs) ≡ size = omega arith in
-        rw same
+        (rw same, rw same)
     go false e =
         let more = ltb-false size (length xs) e in
         let same : min size (length xs) ≡ length xs = omega arith in
-        rw (same, take-all (length xs) xs (omega arith), take-all size xs more)
-
-pub drop-least : (size : ℕ) (xs : List ℕ) → drop (min size (length xs)) xs ≡ drop size xs
-drop-least size xs = go (ltb size (length xs)) refl
-  where
-    go : (b : Bool) → ltb size (length xs) ≡ b → drop (min size (length xs)) xs ≡ drop size xs
-    go true e =
-        let less = ltb-true size (length xs) e in
-        let same : min size (length xs) ≡ size = omega arith in
-        rw same
-    go false e =
-        let more = ltb-false size (length xs) e in
-        let same : min size (length xs) ≡ length xs = omega arith in
-        rw (same, drop-of-length-le xs {i = length xs} (omega arith), drop-of-length-le xs {i = size} more)
+        (rw (same, take-all (length xs) xs (omega arith), take-all size xs more), rw (same, drop-of-length-le xs {i = length xs} (omega arith), drop-of-length-le xs {i = size} more))
 
 chunked-same : (g : ChunkHeaderFormat) (h : ChunkHeader) (ps : List (List ℕ)) → chunksOf g g h ps ≡ map (chunk g h) ps
 chunked-same g h [] = refl
@@ -71,6 +58,6 @@ chunked-piece f g h size payload from n p q e =
     let xs = drop from payload in
     let some : 0 < length xs = rw length-drop (omega arith) in
     let k : n ≡ min size (length xs) = rw length-drop e in
-    let piece : take n xs ≡ take size xs = ap (λ (m : ℕ). take m xs) k ∙ take-least size xs in
-    let rest : drop (from + n) payload ≡ drop size xs = sym (drop-drop n from payload) ∙ ap (λ (m : ℕ). drop m xs) k ∙ drop-least size xs in
+    let piece : take n xs ≡ take size xs = ap (λ (m : ℕ). take m xs) k ∙ cut-least size xs .0 in
+    let rest : drop (from + n) payload ≡ drop size xs = sym (drop-drop n from payload) ∙ ap (λ (m : ℕ). drop m xs) k ∙ cut-least size xs .1 in
     chunked-step f g h size xs p some ∙ rw (add-sub-cancel-left from n, piece, rest)

@@ -1,5 +1,5 @@
 -- Each way out is one of the definition's cases.
-use Prim.Native.Nat.{ℕ, _+_, _*_}
+use Prim.Native.Nat.{ℕ, _+_, _*_, _<_}
 use mathlib.Core.Path.{_≡_, sym, ap, _∙_}
 use native.Mathlib.Omega.{arith}
 use lib.ListN.{getD}
@@ -8,6 +8,10 @@ use Rattle.chunk_header.proofs.Basic.{csid-none, csid-zero-short, csid-
 use borrow.Author.Needs.{needs}
 use Rattle.chunk_header.proofs.get_csid.Statement.{statement}
 use Rattle.chunk_header.proofs.get_csid.Tie as tie
+
+-- the two bytes that follow n = 1
+small : (c : tie.After-wide3) → (c .wide3 .result < 256) × (c .before .before .wide2 .result < 256)
+small c = (omega (arith, c .wide3 .ensures, c .before .shared-slice-known5 .given 1), omega (arith, c .before .before .wide2 .ensures, c .before .before .before .shared-slice-known4 .given 2))
 
 returns : tie.Need-returns
 returns c = sym (csid-none _ (c .if1 .taken))
@@ -40,7 +44,7 @@ wide-requires-2 : tie.Need-wide-requires-2
 wide-requires-2 c κs = search needs
 
 mul-t18 : tie.Need-mul-t18
-mul-t18 c = omega (arith, c .wide2 .ensures, c .before .shared-slice-known4 .given 1, c .before .shared-slice-known4 .given 2)
+mul-t18 c = omega (arith, c .wide2 .ensures, c .before .shared-slice-known4 .given 2)
 
 shared-slice-read-wide-3 : tie.Need-shared-slice-read-wide-3
 shared-slice-read-wide-3 c = search needs
@@ -49,14 +53,15 @@ wide-requires-3 : tie.Need-wide-requires-3
 wide-requires-3 c κs = search needs
 
 add-t22 : tie.Need-add-t22
-add-t22 c = omega (arith, c .wide3 .ensures, c .before .shared-slice-known5 .given 1, c .before .shared-slice-known5 .given 2, c .before .before .wide2 .ensures, c .before .before .before .shared-slice-known4 .given 1, c .before .before .before .shared-slice-known4 .given 2)
+add-t22 c = omega (arith, small c)
 
 add-t23 : tie.Need-add-t23
-add-t23 c = omega (arith, c .wide3 .ensures, c .before .shared-slice-known5 .given 1, c .before .shared-slice-known5 .given 2, c .before .before .wide2 .ensures, c .before .before .before .shared-slice-known4 .given 1, c .before .before .before .shared-slice-known4 .given 2)
+add-t23 c = omega (arith, small c)
 
 returns-5 : tie.Need-returns-5
 returns-5 c =
-    let e : 256 * c .before .before .wide2 .result + c .wide3 .result + 64 ≡ 256 * getD (c .before .before .before .before .before .before .before .before .before .before .args .bytes .now) 2 0 + getD (c .before .before .before .before .before .before .before .before .before .before .args .bytes .now) 1 0 + 64 =
+    let bytes = c .before .before .before .before .before .before .before .before .before .before .args .bytes .now in
+    let e : 256 * c .before .before .wide2 .result + c .wide3 .result + 64 ≡ 256 * getD bytes 2 0 + getD bytes 1 0 + 64 =
     omega (arith, c .wide3 .ensures, c .before .before .wide2 .ensures)
     in
     ap Id e ∙ sym (csid-one _ (c .before .before .before .before .before .if4 .taken) (c .before .before .before .before .if5 .left))

@@ -2,7 +2,6 @@
 use mathlib.Core.Path.{refl}
 use mathlib.Core.List.{[], _∷_}
 use native.Mathlib.Omega.{arith}
-use borrow.Author.Needs.{needs}
 use Rattle.fields.specs.Endian.{bigEndian}
 use Rattle.fields.proofs.Lists.{stored-next}
 use Rattle.user_control.specs.Body.{bodyOf}
