@@ -9,7 +9,6 @@ use Rattle.fields.specs.Endian.{bigEndian}
 use Rattle.fields.specs.Output.{over}
 use Rattle.chunk_header.specs.Limits.{maxLength, maxSize}
 use Rattle.serializer.specs.declared.ChunkSerializer.{ChunkSerializer}
-use Rattle.serializer.specs.declared.Packet.{Packet}
 use Rattle.serializer.specs.declared.Serialized.{Serialized}
 use Rattle.serializer.specs.declared.format.Message.{Message}
 use Rattle.serializer.specs.Answer.{Answer, wrote, refused, answerOf}
@@ -24,9 +23,6 @@ pub record Outcome : Type 0 where
 
 abbrev pub outcomeOf : Serialized → List ℕ → Outcome
 outcomeOf r output = record { answer = answerOf (r .packet); serializer = r .serializer; output = output }
-
-abbrev pub unsent : ChunkSerializer → Packet → Serialized
-unsent s packet = record { serializer = s; packet = packet }
 
 -- a refusal leaves all as before
 abbrev pub refuse : ChunkSerializer → List ℕ → ℕ → Outcome

@@ -5,7 +5,7 @@ ghost use Rattle.serializer.specs.Answer.{answerOf};
 ghost use Prim.Native.Nat.{_<_, _≤_};
 ghost use Rattle.serializer.specs.Message.{message as Message·message};
 ghost use Rattle.serializer.specs.Remembered.{fresh, planned, previous};
-ghost use Rattle.serializer.specs.Serialize.{needed, outcomeOf, sent, serialized, sizeChanged, unsent};
+ghost use Rattle.serializer.specs.Serialize.{needed, outcomeOf, sent, serialized, sizeChanged};
 ghost use Rattle.chunk_header.specs.Limits.{maxLength};
 
 mod format;
@@ -78,7 +78,7 @@ fn message(
 
 // A refusal leaves all as before.
 fn refuse(serializer: ChunkSerializer, packet: Packet) -> Serialized
-    ensures { λ r. ⌜ r ≡ unsent serializer packet ⌝ }
+    ensures { λ r. ⌜ (r .serializer ≡ serializer) × (r .packet ≡ packet) ⌝ }
 {
     Serialized {
         serializer: serializer,

@@ -14,14 +14,14 @@ refuse-requires c κs = search needs
 
 returns : tie.Need-returns
 unfolding sizeChanged
-returns c = simp (c .refuse .ensures, eq-eqb _ _ (c .before .if1 .taken))
+returns c = simp (c .refuse .ensures .0, c .refuse .ensures .1, eq-eqb _ _ (c .before .if1 .taken))
 
 refuse-requires-2 : tie.Need-refuse-requires-2
 refuse-requires-2 c κs = search needs
 
 returns-2 : tie.Need-returns-2
 unfolding sizeChanged
-returns-2 c = simp (c .refuse2 .ensures, ne-eqb _ _ (c .before .before .if1 .left), lt-ltb _ _ (c .before .if2 .taken))
+returns-2 c = simp (c .refuse2 .ensures .0, c .refuse2 .ensures .1, ne-eqb _ _ (c .before .before .if1 .left), lt-ltb _ _ (c .before .if2 .taken))
 
 slice-aggregate-put-number : tie.Need-slice-aggregate-put-number
 slice-aggregate-put-number c = search needs
