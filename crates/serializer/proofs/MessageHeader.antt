@@ -1,9 +1,9 @@
 -- A message header is its format's fields, one straight after the other.
 use Prim.Native.Nat.{ℕ, _+_, _≤_}
-use mathlib.Core.Path.{_≡_, refl, sym, ap, _∙_}
-use mathlib.Core.List.{List, _++_, append-assoc}
+use mathlib.Core.Path.{_≡_, sym, ap}
+use mathlib.Core.List.{List, _++_}
 use native.Mathlib.Omega.{arith}
-use lib.ListN.{length, length-append}
+use lib.ListN.{length}
 use Rattle.chunk_header.specs.declared.ChunkHeader.{ChunkHeader}
 use Rattle.chunk_header.specs.declared.ChunkHeaderFormat.{ChunkHeaderFormat}
 use Rattle.chunk_header.specs.declared.ChunkHeaderFormat.the-variants.{Full, TimeDeltaWithoutMessageStreamId, TimeDeltaOnly, Empty}
@@ -24,34 +24,6 @@ lengthTypeBytes h = bigEndian 3 (h .«message_length») ++ bigEndian 1 (h .«mes
 abbrev pub streamBytes : ChunkHeader → List ℕ
 streamBytes h = littleEndian 4 (h .«message_stream_id»)
 
-pub length-time : (h : ChunkHeader) → length (timeBytes h) ≡ 3
-unfolding bigEndian
-length-time h = refl
-
-pub length-length-type : (h : ChunkHeader) → length (lengthTypeBytes h) ≡ 4
-unfolding bigEndian
-length-length-type h = refl
-
-length-stream : (h : ChunkHeader) → length (streamBytes h) ≡ 4
-unfolding littleEndian
-length-stream h = refl
-
--- how long the header of a format is
-pub length-of : {f : ChunkHeaderFormat} (g : ChunkHeaderFormat) → f ≡ g → headerLength (typeOf f) ≡ headerLength (typeOf g)
-length-of g e = ap (λ (x : ChunkHeaderFormat). headerLength (typeOf x)) e
-
-pub length-full : headerLength (typeOf Full) ≡ 11
-unfolding headerLength fieldLength
-length-full = refl
-
-pub length-no-stream : headerLength (typeOf TimeDeltaWithoutMessageStreamId) ≡ 7
-unfolding headerLength fieldLength
-length-no-stream = refl
-
-pub length-time-only : headerLength (typeOf TimeDeltaOnly) ≡ 3
-unfolding headerLength fieldLength
-length-time-only = refl
-
 module _ (out : List ℕ) (at : ℕ) (f : ChunkHeaderFormat) (h : ChunkHeader) (fits : at + headerLength (typeOf f) ≤ length out) where
   header-of : {r : ℕ} {o : List ℕ} (g : ChunkHeaderFormat) → f ≡ g → Adds out at (headerBytes (messageHeader g h)) r o → Adds out at (headerBytes (messageHeader f h)) r o
   header-of g e a = adds-same (ap (λ (x : ChunkHeaderFormat). headerBytes (messageHeader x h)) (sym e)) a
@@ -64,19 +36,14 @@ module _ (out : List ℕ) (at : ℕ) (f : ChunkHeaderFormat) (h : ChunkHeader) (
 
   pub no-stream-added : {n r : ℕ} {o o′ : List ℕ} → f ≡ TimeDeltaWithoutMessageStreamId → Adds out at (timeBytes h) n o → Adds o n (lengthTypeBytes h) r o′
       → Adds out at (headerBytes (messageHeader f h)) r o′
+  unfolding bigEndian headerLength fieldLength
   no-stream-added e a b =
-      let whole : headerLength (typeOf f) ≡ 7 = length-of TimeDeltaWithoutMessageStreamId e ∙ length-no-stream in
-      let all : timeBytes h ++ lengthTypeBytes h ≡ headerBytes (messageHeader TimeDeltaWithoutMessageStreamId h) = simp append-assoc in
-      header-of TimeDeltaWithoutMessageStreamId e
-      (adds-same all (adds-then out (timeBytes h) (lengthTypeBytes h) a b (omega (arith, a .place, length-time h, length-length-type h))))
+      header-of TimeDeltaWithoutMessageStreamId e (adds-then out (timeBytes h) (lengthTypeBytes h) a b (omega (arith, a .place, rw e at fits)))
 
   pub full-added : {n m r : ℕ} {o o′ o″ : List ℕ} → f ≡ Full → Adds out at (timeBytes h) n o → Adds o n (lengthTypeBytes h) m o′ → Adds o′ m (streamBytes h) r o″
       → Adds out at (headerBytes (messageHeader f h)) r o″
-  full-added {n} {m} {r} {o} {o′} {o″} e a b d =
-      let whole : headerLength (typeOf f) ≡ 11 = length-of Full e ∙ length-full in
+  unfolding bigEndian littleEndian headerLength fieldLength
+  full-added {m = m} {o′ = o′} e a b d =
       let before = timeBytes h ++ lengthTypeBytes h in
-      let first : Adds out at before m o′ = adds-then out (timeBytes h) (lengthTypeBytes h) a b (omega (arith, a .place, length-time h, length-length-type h)) in
-      let all : before ++ streamBytes h ≡ headerBytes (messageHeader Full h) = simp append-assoc in
-      header-of Full e
-      (adds-same all
-      (adds-then out before (streamBytes h) first d (omega (arith, first .place, length-append (timeBytes h) (lengthTypeBytes h), length-time h, length-length-type h, length-stream h))))
+      let first : Adds out at before m o′ = adds-then out (timeBytes h) (lengthTypeBytes h) a b (omega (arith, a .place, rw e at fits)) in
+      header-of Full e (adds-then out before (streamBytes h) first d (omega (arith, first .place, rw e at fits)))

@@ -1,18 +1,8 @@
 -- Each format adds its own fields.
 use native.Mathlib.Omega.{arith}
-use Rattle.chunk_header.specs.declared.ChunkHeaderFormat.the-variants.{Full, TimeDeltaWithoutMessageStreamId, TimeDeltaOnly}
-use Rattle.serializer.proofs.MessageHeader.{
-  length-time,
-  length-length-type,
-  length-of,
-  length-full,
-  length-no-stream,
-  length-time-only,
-  empty-added,
-  time-added,
-  no-stream-added,
-  full-added,
-}
+use Rattle.fields.specs.Endian.{bigEndian}
+use Rattle.chunk_header.specs.Table.{headerLength, fieldLength}
+use Rattle.serializer.proofs.MessageHeader.{empty-added, time-added, no-stream-added, full-added}
 use borrow.Author.Needs.{needs}
 use Rattle.serializer.proofs.write.add_message_header.Statement.{statement}
 use Rattle.serializer.proofs.write.add_message_header.Tie as tie
@@ -21,47 +11,47 @@ enum-told : tie.Need-enum-told
 enum-told c = search needs
 
 add-initial-timestamp-requires : tie.Need-add-initial-timestamp-requires
-add-initial-timestamp-requires c κs =
-    let start = c .before .before .before .before in
-    omega (arith, start .pre, length-of Full (c .before .enum-told .given .1), length-full)
+unfolding headerLength fieldLength
+add-initial-timestamp-requires c κs = omega (arith, rw (c .before .enum-told .given .1) at (c .before .before .before .before .pre))
 
 add-message-length-and-type-id-requires : tie.Need-add-message-length-and-type-id-requires
+unfolding bigEndian headerLength fieldLength
 add-message-length-and-type-id-requires c κs =
     let time = c .before .before .before in
     let told = time .before .before in
     let start = told .before .before .before in
-    omega (arith, start .pre, length-of Full (told .enum-told .given .1), length-full, time .add-initial-timestamp .ensures .place, time .add-initial-timestamp .kept .0, length-time (start .args .header))
+    omega (arith, rw (told .enum-told .given .1) at (start .pre), time .add-initial-timestamp .ensures .place, time .add-initial-timestamp .kept .0)
 
 add-message-stream-id-requires : tie.Need-add-message-stream-id-requires
+unfolding bigEndian headerLength fieldLength
 add-message-stream-id-requires c κs =
     let both = c .before .before .before in
     let time = both .before .before .before .before in
     let told = time .before .before in
     let start = told .before .before .before in
-    omega (arith, start .pre, length-of Full (told .enum-told .given .1), length-full, time .add-initial-timestamp .ensures .place, time .add-initial-timestamp .kept .0, length-time (start .args .header), both .add-message-length-and-type-id .ensures .place, both .add-message-length-and-type-id .kept .0, length-length-type (start .args .header))
+    omega (arith, rw (told .enum-told .given .1) at (start .pre), time .add-initial-timestamp .ensures .place, time .add-initial-timestamp .kept .0, both .add-message-length-and-type-id .ensures .place, both .add-message-length-and-type-id .kept .0)
 
 enum-told-2 : tie.Need-enum-told-2
 enum-told-2 c = search needs
 
 add-initial-timestamp-requires-2 : tie.Need-add-initial-timestamp-requires-2
-add-initial-timestamp-requires-2 c κs =
-    let start = c .before .before .before .before in
-    omega (arith, start .pre, length-of TimeDeltaWithoutMessageStreamId (c .before .enum-told2 .given .1), length-no-stream)
+unfolding headerLength fieldLength
+add-initial-timestamp-requires-2 c κs = omega (arith, rw (c .before .enum-told2 .given .1) at (c .before .before .before .before .pre))
 
 add-message-length-and-type-id-requires-2 : tie.Need-add-message-length-and-type-id-requires-2
+unfolding bigEndian headerLength fieldLength
 add-message-length-and-type-id-requires-2 c κs =
     let time = c .before .before .before in
     let told = time .before .before in
     let start = told .before .before .before in
-    omega (arith, start .pre, length-of TimeDeltaWithoutMessageStreamId (told .enum-told2 .given .1), length-no-stream, time .add-initial-timestamp2 .ensures .place, time .add-initial-timestamp2 .kept .0, length-time (start .args .header))
+    omega (arith, rw (told .enum-told2 .given .1) at (start .pre), time .add-initial-timestamp2 .ensures .place, time .add-initial-timestamp2 .kept .0)
 
 enum-told-3 : tie.Need-enum-told-3
 enum-told-3 c = search needs
 
 add-initial-timestamp-requires-3 : tie.Need-add-initial-timestamp-requires-3
-add-initial-timestamp-requires-3 c κs =
-    let start = c .before .before .before .before in
-    omega (arith, start .pre, length-of TimeDeltaOnly (c .before .enum-told3 .given .1), length-time-only)
+unfolding headerLength fieldLength
+add-initial-timestamp-requires-3 c κs = omega (arith, rw (c .before .enum-told3 .given .1) at (c .before .before .before .before .pre))
 
 enum-told-4 : tie.Need-enum-told-4
 enum-told-4 c = search needs
