@@ -11,7 +11,7 @@ use Rattle.chunk_header.proofs.get_csid.Tie as tie
 
 -- the two bytes that follow n = 1
 small : (c : tie.After-wide3) → (c .wide3 .result < 256) × (c .before .before .wide2 .result < 256)
-small c = (omega (arith, c .wide3 .ensures, c .before .shared-slice-known5 .given 1), omega (arith, c .before .before .wide2 .ensures, c .before .before .before .shared-slice-known4 .given 2))
+small c = (omega (arith, c .wide3 .ensures, c .before .shared-slice-known5 .given 1, c .before .shared-slice-known5 .given 2), omega (arith, c .before .before .wide2 .ensures, c .before .before .before .shared-slice-known4 .given 1, c .before .before .before .shared-slice-known4 .given 2))
 
 returns : tie.Need-returns
 returns c = sym (csid-none _ (c .if1 .taken))
@@ -44,7 +44,7 @@ wide-requires-2 : tie.Need-wide-requires-2
 wide-requires-2 c κs = search needs
 
 mul-t18 : tie.Need-mul-t18
-mul-t18 c = omega (arith, c .wide2 .ensures, c .before .shared-slice-known4 .given 2)
+mul-t18 c = omega (arith, c .wide2 .ensures, c .before .shared-slice-known4 .given 1, c .before .shared-slice-known4 .given 2)
 
 shared-slice-read-wide-3 : tie.Need-shared-slice-read-wide-3
 shared-slice-read-wide-3 c = search needs
