@@ -36,7 +36,7 @@ format (type2 delta) = 2
 format type3 = 3
 
 -- the low six bits are the id, or 0 or 1 for the longer forms
-abbrev pub basicBytes : Form → ℕ → ℕ → List ℕ
+abbrev pub basicBytes : Form → (fmt id : ℕ) → List ℕ
 basicBytes one fmt id = (64 * fmt + id) ∷ []
 basicBytes two fmt id = (64 * fmt + 0) ∷ (id - 64) ∷ []
 basicBytes three fmt id = (64 * fmt + 1) ∷ littleEndian 2 (id - 64)

@@ -30,7 +30,7 @@ isEmpty TimeDeltaOnly = false
 isEmpty Empty = true
 
 -- "the top two bits are the type"
-unfoldable pub formatOf : ℕ → ChunkHeaderFormat
+unfoldable pub formatOf : (byte : ℕ) → ChunkHeaderFormat
 formatOf byte = getD (Full ∷ TimeDeltaWithoutMessageStreamId ∷ TimeDeltaOnly ∷ []) (byte / 64) Empty
 
 -- the fields in their order
@@ -41,16 +41,16 @@ indexOf MessageTypeId = 2
 indexOf MessageStreamId = 3
 
 -- "time 3, length 3, message type 1, stream id 4" ..
-abbrev pub width : ℕ → ℕ
+abbrev pub width : (field : ℕ) → ℕ
 width field = getD (3 ∷ 3 ∷ 1 ∷ 4 ∷ []) field 0
 
 -- .. the time in types up to 2, length and message type in types up to 1, the stream id in type 0
-abbrev pub lastType : ℕ → ℕ
+abbrev pub lastType : (field : ℕ) → ℕ
 lastType field = getD (2 ∷ 1 ∷ 1 ∷ 0 ∷ []) field 0
 
-unfoldable pub fieldLength : ℕ → ℕ → ℕ
+unfoldable pub fieldLength : (type field : ℕ) → ℕ
 fieldLength type field = cond (leb type (lastType field)) (width field) 0
 
 -- 11, 7, 3 and 0
-unfoldable pub headerLength : ℕ → ℕ
+unfoldable pub headerLength : (type : ℕ) → ℕ
 headerLength type = fieldLength type 0 + fieldLength type 1 + fieldLength type 2 + fieldLength type 3

@@ -4,17 +4,17 @@ use mathlib.Core.List.{List, [], _∷_}
 use lib.ListN.{getD}
 
 -- the last n bytes of x, most significant first
-unfoldable pub bigEndian : ℕ → ℕ → List ℕ
+unfoldable pub bigEndian : (n x : ℕ) → List ℕ
 bigEndian zero x = []
 bigEndian (suc n) x = x / 256 ^ n % 256 ∷ bigEndian n x
 
 -- the last n bytes of x, least significant first
-unfoldable pub littleEndian : ℕ → ℕ → List ℕ
+unfoldable pub littleEndian : (n x : ℕ) → List ℕ
 littleEndian zero x = []
 littleEndian (suc n) x = x % 256 ∷ littleEndian n (x / 256)
 
 -- the number that bytes mean, most significant first, after what was gathered before them
-unfoldable pub gather : ℕ → List ℕ → ℕ
+unfoldable pub gather : (before : ℕ) → (bytes : List ℕ) → ℕ
 gather before [] = before
 gather before (b ∷ bs) = gather (before * 256 + b) bs
 

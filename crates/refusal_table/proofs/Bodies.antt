@@ -1,13 +1,13 @@
 -- The refusals of user control bodies: the code is one of nine, and each of them says how many bytes it needs.
 use Prim.Native.Nat.{ℕ, _<_}
-use mathlib.Core.Bool.{Bool, true, false, cond, not}
+use mathlib.Core.Bool.{Bool, true, false, _&&_, cond, not}
 use mathlib.Core.List.{List, [], _∷_}
 use mathlib.Core.Logic.{_↔_, _≢_, _⊎_, inl, inr, ⊎-elim}
 use mathlib.Core.Path.{_≡_, refl}
 use native.Mathlib.Omega.{arith}
-use lib.Dec.{eqb}
+use lib.Dec.{eqb, ltb}
 use lib.ListN.{drop, length}
-use borrow.Author.Tests.{eqb-false, eqb-true, ne-eqb}
+use borrow.Author.Tests.{eqb-false, eqb-true}
 use Rattle.fields.specs.Output.{over}
 use Rattle.user_control.specs.declared.UserControlEvent.{UserControlEvent}
 use Rattle.user_control.specs.Answer.{Answer, event, refused, wrote}
@@ -15,113 +15,77 @@ use Rattle.user_control.specs.Body.{body}
 use Rattle.user_control.specs.Reading.{bodyLength, codeIn, count, known, numbersIn, reading, short}
 use Rattle.user_control.specs.Writing.{lacks, leaves, writing}
 use Rattle.refusal_table.specs.Conditions.{fifteen, sixteen}
-use Rattle.refusal_table.specs.Table.{WriteBody}
-use Rattle.refusal_table.specs.Terms.{OneOf, _unless_}
-use Rattle.refusal_table.proofs.Deciding.{Decides, both, here, in-words, later, less, listed, neither, not-decides, one-of}
+use Rattle.refusal_table.specs.Terms.{OneOf, Row, _unless_}
+use Rattle.refusal_table.proofs.Deciding.{Among, Decides, Gives, both, here, in-words, later, less, listed, no-refusal, not-decides, one-of, then-one}
 
--- an answer of another number, and one that is no refusal
-other : (m k : ℕ) → m ≢ k → refused m ≢ refused k
-other m k n h = n (let q : m ≡ k = cc in q)
-
+-- an answer that is no refusal, and one that is
 written : (n k : ℕ) → wrote n ≢ refused k
 written n k h = let z : _≡_ {A = ℕ} 0 1 = cc in omega arith
 
 read : (c : ℕ) (ns : List ℕ) (k : ℕ) → event c ns ≢ refused k
 read c ns k h = let z : _≡_ {A = ℕ} 0 1 = cc in omega arith
 
--- the codes
-abbrev codes : List ℕ
-codes = 0 ∷ 1 ∷ 2 ∷ 3 ∷ 4 ∷ 6 ∷ 7 ∷ 31 ∷ 32 ∷ []
+abbrev Is : ℕ → Answer → Type 0
+Is k a = a ≡ refused k
 
+gives : (n : ℕ) → Gives Is (λ a. Unit {0}) n (refused n)
+gives n = record { is = refl; only = λ m h. cc; left = tt }
+
+-- the codes that need 6 bytes
 abbrev but-3 : List ℕ
 but-3 = 0 ∷ 1 ∷ 2 ∷ 4 ∷ 6 ∷ 7 ∷ 31 ∷ 32 ∷ []
 
-known-code : (c : ℕ) → Decides (known c) (OneOf c codes)
+-- a known code
+known-code : (c : ℕ) → Decides (known c) (OneOf c (0 ∷ 1 ∷ 2 ∷ 3 ∷ 4 ∷ 6 ∷ 7 ∷ 31 ∷ 32 ∷ []))
 unfolding known
-known-code c = listed c codes
+known-code c = listed c (0 ∷ 1 ∷ 2 ∷ 3 ∷ 4 ∷ 6 ∷ 7 ∷ 31 ∷ 32 ∷ [])
 
-not-3 : (c : ℕ) → OneOf c but-3 → c ≢ 3
-not-3 c h e = listed 3 but-3 .no refl (rw e at h)
-
-without-3 : (c : ℕ) → c ≢ 3 → OneOf c codes → OneOf c but-3
-without-3 c n (inl e) = inl e
-without-3 c n (inr (inl e)) = inr (inl e)
-without-3 c n (inr (inr (inl e))) = inr (inr (inl e))
-without-3 c n (inr (inr (inr (inl e)))) = absurd (n e)
-without-3 c n (inr (inr (inr (inr h)))) = inr (inr (inr h))
-
-with-3 : (c : ℕ) → OneOf c but-3 → OneOf c codes
-with-3 c (inl e) = inl e
-with-3 c (inr (inl e)) = inr (inl e)
-with-3 c (inr (inr (inl e))) = inr (inr (inl e))
-with-3 c (inr (inr (inr h))) = inr (inr (inr (inr h)))
-
--- 10 bytes for code 3, and 6 for each other
-length-3 : bodyLength 3 ≡ 10
-unfolding count
-length-3 = refl
-
-length-other : (c : ℕ) → c ≢ 3 → bodyLength c ≡ 6
-unfolding count
-length-other c n = rw (ne-eqb c 3 n)
-
--- fewer bytes than a known code needs
-fewer : (c n : ℕ) → (OneOf c codes × (n < bodyLength c)) ↔ ((OneOf c but-3 × (n < 6)) ⊎ ((c ≡ 3) × (n < 10)))
-fewer c n = (there (eqb c 3) refl, ⊎-elim few-6 few-10)
+-- fewer bytes than it needs: 10 for code 3, and 6 for each other
+fewer : (c n : ℕ) → Decides (known c && ltb n (bodyLength c)) ((OneOf c but-3 × (n < 6)) ⊎ ((c ≡ 3) × (n < 10)))
+unfolding known count
+fewer c n = by-code (eqb c 3) refl
   where
-    there : (t : Bool) → eqb c 3 ≡ t → OneOf c codes × (n < bodyLength c) → (OneOf c but-3 × (n < 6)) ⊎ ((c ≡ 3) × (n < 10))
-    there true e h =
-        let q = eqb-true c 3 e in
-        let l : n < bodyLength 3 = rw q at (h .1) in
-        inr (q, omega (arith, l, length-3))
-    there false e h = let q = eqb-false c 3 e in inl (without-3 c q (h .0), omega (arith, h .1, length-other c q))
-
-    few-6 : OneOf c but-3 × (n < 6) → OneOf c codes × (n < bodyLength c)
-    few-6 h = (with-3 c (h .0), omega (arith, h .1, length-other c (not-3 c (h .0))))
-
-    few-10 : (c ≡ 3) × (n < 10) → OneOf c codes × (n < bodyLength c)
-    few-10 h = rw (h .0) (inr (inr (inr (inl refl))), omega (arith, h .1, length-3))
+    by-code : (t : Bool) → eqb c 3 ≡ t
+        → Decides (known c && ltb n (bodyLength c)) ((OneOf c but-3 × (n < 6)) ⊎ ((c ≡ 3) × (n < 10)))
+    by-code true e =
+        rw (eqb-true c 3 e)
+        (in-words (λ h. inr (refl, h), ⊎-elim (λ h. absurd (listed 3 but-3 .no refl (h .0))) (λ h. h .1)) (less n 10))
+    by-code false e =
+        rw e
+        (in-words (λ h. inl h, ⊎-elim (λ h. h) (λ h. absurd (eqb-false c 3 e (h .0)))) (both (listed c but-3) (less n 6)))
 
 module _ (bytes : List ℕ) where
   too-short : Decides (short bytes) (fifteen bytes)
-  too-short =
-      one-of (less (length bytes) 2)
-      (in-words (fewer (codeIn bytes) (length bytes)) (both (known-code (codeIn bytes)) (less (length bytes) (bodyLength (codeIn bytes)))))
+  too-short = one-of (less (length bytes) 2) (fewer (codeIn bytes) (length bytes))
 
-  abbrev Is : ℕ → Answer → Type 0
-  Is k a = a ≡ refused k
+  unknown-only : Among Is (λ a. Unit {0}) (16 ∷ []) (cond (not (known (codeIn bytes))) (refused 16) (event (codeIn bytes) (numbersIn (count (codeIn bytes)) (drop 2 bytes))))
+  unknown-only = then-one (not (known (codeIn bytes))) (gives 16) (no-refusal (read (codeIn bytes) _))
 
   pub body-15 : reading bytes ≡ refused 15 ↔ fifteen bytes
   unfolding reading
-  body-15 = here (Is 15) _ too-short refl (neither (Is 15) (not (known (codeIn bytes))) (other 16 15 (omega arith)) (read _ _ 15))
+  body-15 = here (gives 15) too-short unknown-only refl
 
   pub body-16 : reading bytes ≡ refused 16 ↔ (sixteen bytes unless fifteen bytes)
   unfolding reading
-  body-16 = later (Is 16) _ too-short (other 15 16 (omega arith)) (here (Is 16) _ (not-decides (known-code (codeIn bytes))) refl (read _ _ 16))
+  body-16 = later (gives 15) too-short refl (here (gives 16) (not-decides (known-code (codeIn bytes))) (no-refusal (read (codeIn bytes) _)) refl)
 
   pub body-no-other : (k : ℕ) → reading bytes ≡ refused k → OneOf k (15 ∷ 16 ∷ [])
   unfolding reading
-  body-no-other k = by-cases (short bytes) (not (known (codeIn bytes)))
-    where
-      by-cases : (a b : Bool) → cond a (refused 15) (cond b (refused 16) (event (codeIn bytes) (numbersIn (count (codeIn bytes)) (drop 2 bytes)))) ≡ refused k
-          → OneOf k (15 ∷ 16 ∷ [])
-      by-cases true b h = inl (cc)
-      by-cases false true h = inr (inl (cc))
-      by-cases false false h = absurd (read _ _ k h)
+  body-no-other = then-one (short bytes) (gives 15) unknown-only .no-other
 
 -- what is written
-pub write-5 : WriteBody 5 (λ e output. length output < length (body e))
-unfolding writing leaves
-write-5 e output = record { given = here (Is output 5) _ (less (length output) (length (body e))) refl (written (length (body e)) 5); leaves = left (lacks output (body e)) }
-  where
-    left : (t : Bool) → cond t (refused 5) (wrote (length (body e))) ≡ refused 5 → cond t output (over (body e) output) ≡ output
-    left true h = refl
-    left false h = absurd (written _ 5 h)
+module _ (e : UserControlEvent) (output : List ℕ) where
+  none-written : Among Is (λ a. Unit {0}) [] (wrote (length (body e)))
+  none-written = no-refusal (written (length (body e)))
 
-pub write-no-other : (e : UserControlEvent) (output : List ℕ) (k : ℕ) → writing (body e) output ≡ refused k → OneOf k (5 ∷ [])
-unfolding writing
-write-no-other e output k = by-cases (lacks output (body e))
-  where
-    by-cases : (t : Bool) → cond t (refused 5) (wrote (length (body e))) ≡ refused k → OneOf k (5 ∷ [])
-    by-cases true h = inl (cc)
-    by-cases false h = absurd (written _ k h)
+  pub write-5 : Row (writing (body e) output ≡ refused 5) (length output < length (body e)) (leaves (body e) output ≡ output)
+  unfolding writing leaves
+  write-5 = record { given = here (gives 5) (less (length output) (length (body e))) none-written refl; leaves = left (lacks output (body e)) }
+    where
+      left : (t : Bool) → cond t (refused 5) (wrote (length (body e))) ≡ refused 5 → cond t output (over (body e) output) ≡ output
+      left true h = refl
+      left false h = absurd (written _ 5 h)
+
+  pub write-no-other : (k : ℕ) → writing (body e) output ≡ refused k → OneOf k (5 ∷ [])
+  unfolding writing
+  write-no-other = then-one (lacks output (body e)) (gives 5) none-written .no-other

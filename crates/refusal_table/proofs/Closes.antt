@@ -10,7 +10,7 @@ use Rattle.byte_machine.specs.declared.reader.Event.{Event}
 use Rattle.byte_machine.specs.declared.reader.Event.the-variants.{Go, Chunk, Message, Refuse}
 use Rattle.byte_machine.specs.declared.reader.Stepped.{Stepped}
 use Rattle.deserializer.specs.Answer.{refused}
-use Rattle.deserializer.specs.Call.{Outcome, after, end, run, stepOf, writes}
+use Rattle.deserializer.specs.Call.{Outcome, after, end, outcome, run, stepOf, writes}
 use Rattle.byte_machine.specs.Payload.{landed, pays}
 use Rattle.byte_machine.specs.Step.{stepped}
 use Rattle.byte_machine.specs.Reader.{inPayload, refuse}
@@ -33,13 +33,16 @@ refused-stores-nothing d payload x k =
     by-cases true false s h = refl
     by-cases false u s h = refl
 
--- a run that is refused, at the byte after j others
+-- a run that is refused, at the byte after some others: what they leave, closed
+abbrev closedAs : ℕ → ℕ → Outcome → Outcome
+closedAs k m o = outcome (refused k m) (closedWith k (o .deserializer)) (o .payload)
+
 pub record ClosedAt (a : List ℕ) (d : ChunkDeserializer) (payload : List ℕ) (n k m : ℕ) : Type 0 where
   pub others : ℕ
   pub used : m ≡ n + suc others
-  pub closes : run a d payload n .deserializer ≡ closedWith k (run (take others a) d payload n .deserializer)
-  pub stays : run a d payload n .payload ≡ run (take others a) d payload n .payload
+  pub closes : run a d payload n ≡ closedAs k m (run (take others a) d payload n)
 
+-- by the first byte's event
 module _ (x : ℕ) (a : List ℕ) (d : ChunkDeserializer) (payload : List ℕ) (n k m : ℕ) where
   abbrev d′ : ChunkDeserializer
   d′ = after d (stepOf d x)
@@ -47,38 +50,23 @@ module _ (x : ℕ) (a : List ℕ) (d : ChunkDeserializer) (payload : List ℕ) (
   abbrev payload′ : List ℕ
   payload′ = writes d payload x
 
-  goes-closed : (e : Event) → stepOf d x .event ≡ e → ((o : Outcome) → end e d′ payload′ (n + 1) o ≡ o) → ClosedAt a d′ payload′ (n + 1) k m
-      → ClosedAt (x ∷ a) d payload n k m
-  unfolding run
-  goes-closed e is goes c =
-      let on : (b : List ℕ) → run (x ∷ b) d payload n ≡ run b d′ payload′ (n + 1) = λ b. ap (λ (e : Event). end e d′ payload′ (n + 1) (run b d′ payload′ (n + 1))) is ∙ goes (run b d′ payload′ (n + 1)) in
-      record {
-        others = suc (c .others);
-        used = omega (arith, c .used);
-        closes = ap (λ (o : Outcome). o .deserializer) (on a) ∙ c .closes ∙ ap (λ (o : Outcome). closedWith k (o .deserializer)) (sym (on (take (c .others) a)));
-        stays = ap (λ (o : Outcome). o .payload) (on a) ∙ c .stays ∙ ap (λ (o : Outcome). o .payload) (sym (on (take (c .others) a)));
-      }
+  -- it goes on, and so do the bytes before the one that is refused
+  goes-closed : ((b : List ℕ) → run (x ∷ b) d payload n ≡ run b d′ payload′ (n + 1)) → ClosedAt a d′ payload′ (n + 1) k m → ClosedAt (x ∷ a) d payload n k m
+  goes-closed on c =
+      record { others = suc (c .others); used = omega (arith, c .used); closes = on a ∙ c .closes ∙ ap (closedAs k m) (sym (on (take (c .others) a))) }
 
-  -- by the first byte's event
   by-event : (e : Event) → stepOf d x .event ≡ e → end e d′ payload′ (n + 1) (run a d′ payload′ (n + 1)) .answer ≡ refused k m
       → (run a d′ payload′ (n + 1) .answer ≡ refused k m → ClosedAt a d′ payload′ (n + 1) k m)
       → ClosedAt (x ∷ a) d payload n k m
   unfolding run
-  by-event Go is h later = goes-closed Go is (λ o. refl) (later h)
-  by-event Chunk is h later = goes-closed Chunk is (λ o. refl) (later h)
+  by-event Go is h later = goes-closed (λ b. rw is) (later h)
+  by-event Chunk is h later = goes-closed (λ b. rw is) (later h)
   by-event Message is h later = refused-not-message (sym h)
   by-event (Refuse j) is h later =
       let ek : j ≡ k = cc in
       let em : n + 1 ≡ m = cc in
-      let at-once : run (x ∷ a) d payload n ≡ end (Refuse j) d′ payload′ (n + 1) (run a d′ payload′ (n + 1)) =
-      ap (λ (e : Event). end e d′ payload′ (n + 1) (run a d′ payload′ (n + 1))) is
-      in
-      record {
-        others = 0;
-        used = omega (arith, em);
-        closes = ap (λ (o : Outcome). o .deserializer) at-once ∙ refusal-only-closes d x j is ∙ ap (λ (i : ℕ). closedWith i d) ek;
-        stays = ap (λ (o : Outcome). o .payload) at-once ∙ refused-stores-nothing d payload x j is;
-      }
+      let at-once : run (x ∷ a) d payload n ≡ outcome (refused j (n + 1)) d′ payload′ = rw is in
+      record { others = 0; used = omega (arith, em); closes = at-once ∙ (rw (refusal-only-closes d x j is, refused-stores-nothing d payload x j is, ek, em)) }
 
 pub closed-at : (a : List ℕ) (d : ChunkDeserializer) (payload : List ℕ) (n k m : ℕ) → run a d payload n .answer ≡ refused k m → ClosedAt a d payload n k m
 unfolding run

@@ -1,28 +1,23 @@
 -- The encoder's refusals: each is answered by a test of its own, in the order 1, 2, 5 or 3, 4, 5, and hands everything back.
 use Prim.Native.Nat.{ℕ, _<_}
-use mathlib.Core.Bool.{Bool, true, false, cond}
+use mathlib.Core.Bool.{cond}
 use mathlib.Core.List.{List, [], _∷_}
-use mathlib.Core.Logic.{_↔_, _≢_, inl, inr}
+use mathlib.Core.Logic.{_↔_, _≢_}
 use mathlib.Core.Path.{_≡_, refl}
 use native.Mathlib.Omega.{arith}
 use lib.Dec.{eqb, ltb}
 use lib.ListN.{length}
-use Rattle.fields.specs.Endian.{bigEndian}
 use Rattle.serializer.specs.declared.ChunkSerializer.{ChunkSerializer}
 use Rattle.serializer.specs.declared.format.Message.{Message}
 use Rattle.serializer.specs.Answer.{Answer, refused, wrote}
+use Rattle.serializer.specs.Serialize.{Outcome, needed, refuse, sent, serialized, sizeChanged}
 use Rattle.serializer.specs.Remembered.{packetOf}
-use Rattle.serializer.specs.Serialize.{Outcome, accept, needed, refuse, sent, serialized, sizeChanged, sizeMessage}
 use Rattle.chunk_header.specs.Limits.{maxLength, maxSize}
 use Rattle.refusal_table.specs.Table.{sizePacket}
 use Rattle.refusal_table.specs.Terms.{OneOf}
-use Rattle.refusal_table.proofs.Deciding.{alone, equal, here, later, less, neither}
-use Rattle.refusal_table.proofs.Three.{Gives, Three, three}
+use Rattle.refusal_table.proofs.Deciding.{Among, Gives, Three, alone, equal, here, later, less, no-refusal, then-one, three}
 
--- an answer of another number, and one that is no refusal
-other : (m k : ℕ) → m ≢ k → refused m ≢ refused k
-other m k n h = n (let q : m ≡ k = cc in q)
-
+-- an answer that is no refusal
 written : (n k : ℕ) → wrote n ≢ refused k
 written n k h = let z : _≡_ {A = ℕ} 0 1 = cc in omega arith
 
@@ -42,8 +37,7 @@ pub message-rows : (s : ChunkSerializer) (m : Message) (payload output : List �
     (length output < length (packetOf s m payload))
 unfolding serialized sent
 message-rows s m payload output =
-    three Is (AsBefore s output) (accept s m payload (s .«max_chunk_size») output) (gives s output 1) (gives s output 2) (gives s output 5)
-    (written (length (packetOf s m payload))) (omega arith) (omega arith) (omega arith) (λ h e. omega arith)
+    three (gives s output 1) (gives s output 2) (gives s output 5) (written (length (packetOf s m payload))) refl refl refl refl refl (λ h e. omega arith)
     (equal (length payload) 0) (less maxLength (length payload)) (less (length output) (length (packetOf s m payload)))
 
 -- a size change: 3, 4, 5
@@ -51,33 +45,31 @@ pub size-rows : (s : ChunkSerializer) (size time : ℕ) (output : List ℕ)
     → Three Is (AsBefore s output) 3 4 5 (sizeChanged s size time output) (size ≡ 0) (2147483647 < size) (length output < length (sizePacket s size time))
 unfolding sizeChanged sent
 size-rows s size time output =
-    three Is (AsBefore s output) (accept s (sizeMessage time) (bigEndian 4 size) size output) (gives s output 3) (gives s output 4) (gives s output 5)
-    (written (length (sizePacket s size time))) (omega arith) (omega arith) (omega arith) (λ h e. omega arith)
+    three (gives s output 3) (gives s output 4) (gives s output 5) (written (length (sizePacket s size time))) refl refl refl refl refl (λ h e. omega arith)
     (equal size 0) (less maxSize size) (less (length output) (length (sizePacket s size time)))
 
 -- a packet's length: 1, 2
+abbrev IsLength : ℕ → Answer → Type 0
+IsLength k a = a ≡ refused k
+
+length-gives : (n : ℕ) → Gives IsLength (λ a. Unit {0}) n (refused n)
+length-gives n = record { is = refl; only = λ m h. cc; left = tt }
+
 module _ (s : ChunkSerializer) (m : Message) (payload : List ℕ) where
-  abbrev IsLength : ℕ → Answer → Type 0
-  IsLength k a = a ≡ refused k
+  long-only : Among IsLength (λ a. Unit {0}) (2 ∷ []) (cond (ltb maxLength (length payload)) (refused 2) (wrote (length (packetOf s m payload))))
+  long-only = then-one (ltb maxLength (length payload)) (length-gives 2) (no-refusal (written (length (packetOf s m payload))))
 
   pub length-1 : needed s m payload ≡ refused 1 ↔ length payload ≡ 0
   unfolding needed
-  length-1 =
-      here (IsLength 1) _ (equal (length payload) 0) refl
-      (neither (IsLength 1) (ltb maxLength (length payload)) (other 2 1 (omega arith)) (written (length (packetOf s m payload)) 1))
+  length-1 = here (length-gives 1) (equal (length payload) 0) long-only refl
 
   pub length-2 : needed s m payload ≡ refused 2 ↔ 16777215 < length payload
   unfolding needed
   length-2 =
       alone (λ h e. omega arith)
-      (later (IsLength 2) _ (equal (length payload) 0) (other 1 2 (omega arith))
-      (here (IsLength 2) _ (less maxLength (length payload)) refl (written (length (packetOf s m payload)) 2)))
+      (later (length-gives 1) (equal (length payload) 0) refl
+      (here (length-gives 2) (less maxLength (length payload)) (no-refusal (written (length (packetOf s m payload)))) refl))
 
   pub length-no-other : (k : ℕ) → needed s m payload ≡ refused k → OneOf k (1 ∷ 2 ∷ [])
   unfolding needed
-  length-no-other k = by-cases (eqb (length payload) 0) (ltb maxLength (length payload))
-    where
-      by-cases : (a b : Bool) → cond a (refused 1) (cond b (refused 2) (wrote (length (packetOf s m payload)))) ≡ refused k → OneOf k (1 ∷ 2 ∷ [])
-      by-cases true b h = inl (cc)
-      by-cases false true h = inr (inl (cc))
-      by-cases false false h = absurd (written _ k h)
+  length-no-other = then-one (eqb (length payload) 0) (length-gives 1) long-only .no-other

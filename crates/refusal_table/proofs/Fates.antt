@@ -8,7 +8,7 @@ use native.Mathlib.Omega.{arith}
 use lib.Dec.{eqb, ltb}
 use lib.ListN.{length, length-append}
 use lib.Seq.{sets}
-use borrow.Author.Tests.{eqb-true, eqb-false}
+use borrow.Author.Tests.{eqb-true, eqb-false, ltb-true}
 use Rattle.chunk_header.specs.Layout.{Chunk, Form, one, two, three, basicBytes, chunkBytes, extendedBytes, headerBytes}
 use Rattle.deserializer.specs.declared.ChunkDeserializer.{ChunkDeserializer}
 use Rattle.byte_machine.specs.declared.reader.Event.{Event}
@@ -45,6 +45,7 @@ pub record GoesOn (d : ChunkDeserializer) (c : Chunk) : Type 0 where
   pub between : decoder .reader .stage ≡ Csid
   pub same-room : decoder .room ≡ d .room
   pub same-closed : decoder .closed ≡ d .closed
+  pub full : length (c .payload) ≡ d .«max_chunk_size»
 
 abbrev pub IsMessage : Listed → Type 0
 IsMessage (message type stream time long used) = Unit {0}
@@ -96,6 +97,7 @@ module _ (d : ChunkDeserializer) (c : Chunk) (reached : Reached d) (stage : d .r
       between = rw e;
       same-room = refl;
       same-closed = rw e;
+      full = let l = ltb-true (got d c + length (c .payload)) (header d c .«message_length») e in omega (arith, l, fits .payload);
     }
 
     handed : goes ≡ false → (payload : List ℕ) (n : ℕ) (rest : List ℕ) → IsMessage (run (chunkBytes c ++ rest) d payload n .answer)

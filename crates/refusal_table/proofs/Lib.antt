@@ -2,8 +2,10 @@ pub mod Bodies
 pub mod Calls
 pub mod Chunks
 pub mod Closes
+pub mod Coming
 pub mod Deciding
 pub mod Encoder
+pub mod Entries
 pub mod Fates
 pub mod Histories
 pub mod Opened
@@ -11,5 +13,4 @@ pub mod Settling
 pub mod Sizes
 pub mod Standing
 pub mod Table
-pub mod Three
 pub mod Tracing

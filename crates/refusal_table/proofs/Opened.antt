@@ -1,30 +1,28 @@
 -- What the history of an open decoder tells: its bytes in one run from its start want more and leave it, as no run looks at the buffer that is lent.
-use Prim.Native.Nat.{ℕ, _+_, _≤_, _<_}
-use mathlib.Core.Bool.{Bool, true, false, cond, not, _||_}
+use Prim.Native.Nat.{ℕ, _+_, _<_}
+use mathlib.Core.Bool.{true, false, not}
 use mathlib.Core.List.{List, [], _∷_, _++_}
-use mathlib.Core.Logic.{_≢_}
 use mathlib.Core.Path.{_≡_, refl, sym, ap, _∙_}
 use native.Mathlib.Nat.{add-zero}
 use native.Mathlib.Omega.{arith}
-use lib.Dec.{eqb, ltb}
 use lib.ListN.{length, length-append}
-use borrow.Author.Tests.{eqb-true, ltb-false, ltb-true}
-use Rattle.fields.specs.Cases.{_when_, first}
 use Rattle.fields.specs.Endian.{Bytes}
 use Rattle.deserializer.specs.declared.ChunkDeserializer.{ChunkDeserializer}
 use Rattle.byte_machine.specs.declared.reader.Event.{Event}
 use Rattle.byte_machine.specs.declared.reader.Event.the-variants.{Go, Chunk, Message, Refuse}
-use Rattle.deserializer.specs.Answer.{message, more, refused}
-use Rattle.deserializer.specs.Call.{Outcome, after, end, next, run, stepOf, writes}
-use Rattle.deserializer.specs.Told.{between, fresh, made, maxRoom, outcome as telling, refused as no-size, sized, taken, told}
-use Rattle.chunk_header.specs.Limits.{maxSize}
+use Rattle.deserializer.specs.Answer.{message, more}
+use Rattle.deserializer.specs.Call.{Outcome, after, end, next, outcome, run, stepOf, writes}
+use Rattle.deserializer.specs.Told.{Outcome as Told, between, fresh, refused as no-size, sized, taken}
 use Rattle.deserializer.proofs.Covers.{bytes-append}
 use Rattle.deserializer.proofs.Cut.{has-run, run-append, run-kept, run-shift, shift}
 use Rattle.deserializer.proofs.Progress.{more-uses-all}
 use Rattle.deserializer.proofs.Reached.{Reached, made-reached, next-reached, run-reached, told-reached}
-use Rattle.deserializer.proofs.Runs.{next-runs, next-short}
+use Rattle.deserializer.proofs.Runs.{next-runs}
+use Rattle.fields.proofs.Tests.{clash}
 use Rattle.refusal_table.specs.History.{Open, opened, resized, handed, wanted}
-use Rattle.refusal_table.proofs.Standing.{more-not-message, refused-not-message, run-stood}
+use Rattle.refusal_table.proofs.Deciding.{Decides}
+use Rattle.refusal_table.proofs.Entries.{made-by, next-by, told-by}
+use Rattle.refusal_table.proofs.Standing.{refused-not-message, run-stood}
 
 -- answer and decoder do not depend on the buffer
 pub record Same (o o′ : Outcome) : Type 0 where
@@ -55,46 +53,40 @@ from a d p q m =
     }
 
 -- bytes that want more, from any count and with any buffer, and the decoder that they leave
-pub record Leads (d : ChunkDeserializer) (a : List ℕ) (d′ : ChunkDeserializer) (payload : List ℕ) (n : ℕ) : Type 0 where
-  pub wants : run a d payload n .answer ≡ more (n + length a)
-  pub leaves : run a d payload n .deserializer ≡ d′
+pub record Leads (d : ChunkDeserializer) (a : List ℕ) (d′ : ChunkDeserializer) : Type 0 where
+  pub runs : (payload : List ℕ) (n : ℕ) → Same (run a d payload n) (outcome (more (n + length a)) d′ [])
 
 -- what follows such bytes
-pub follows : (a b : List ℕ) (d d′ : ChunkDeserializer) (payload : List ℕ) (n : ℕ) → Leads d a d′ payload n
+pub follows : {a : List ℕ} {d d′ : ChunkDeserializer} → Leads d a d′ → (b payload : List ℕ) (n : ℕ)
     → run (a ++ b) d payload n ≡ run b d′ (run a d payload n .payload) (n + length a)
-follows a b d d′ payload n l = run-append a b d payload n ∙ (rw (l .wants, l .leaves))
+follows {a} {d} l b payload n = let s = l .runs payload n in run-append a b d payload n ∙ (rw (s .answer, s .decoder))
 
--- a decoder that is made open, and one that takes a size
-made-taken : (room : ℕ) → made room .answer ≡ taken → made room .deserializer ≡ fresh room 0
-unfolding made
-made-taken room = by-cases (eqb room 0 || ltb maxRoom room)
+pub leads-nowhere : {d : ChunkDeserializer} → Leads d [] d
+unfolding run
+leads-nowhere = record { runs = λ payload n. record { answer = ap more (sym (add-zero n)); decoder = refl } }
+
+-- such bytes, and others after them
+pub leads-on : {d d₁ d′ : ChunkDeserializer} {a b : List ℕ} → Leads d a d₁ → Leads d₁ b d′ → Leads d (a ++ b) d′
+leads-on {d} {d₁} {d′} {a} {b} l k = record { runs = both }
   where
-    by-cases : (t : Bool) → cond t (telling (no-size 6) (fresh room 6)) (telling taken (fresh room 0)) .answer ≡ taken
-        → cond t (telling (no-size 6) (fresh room 6)) (telling taken (fresh room 0)) .deserializer ≡ fresh room 0
-    by-cases true h = absurd (let z : _≡_ {A = ℕ} 0 1 = cc in omega arith)
-    by-cases false h = refl
+    both : (payload : List ℕ) (n : ℕ) → Same (run (a ++ b) d payload n) (outcome (more (n + length (a ++ b))) d′ [])
+    both payload n =
+        let f = follows l b payload n in
+        let s = k .runs (run a d payload n .payload) (n + length a) in
+        let z : n + length a + length b ≡ n + length (a ++ b) = simp length-append (omega arith) in
+        record { answer = ap (λ (o : Outcome). o .answer) f ∙ s .answer ∙ ap more z; decoder = ap (λ (o : Outcome). o .deserializer) f ∙ s .decoder }
 
-pub told-taken : (d : ChunkDeserializer) (size : ℕ) → told d size .answer ≡ taken
-    → (d .closed ≡ 0) × (between (d .reader) ≡ true) × (told d size .deserializer ≡ sized d size)
-unfolding told
-told-taken d size = by-cases (eqb (d .closed) 0) (eqb size 0) (ltb maxSize size) (between (d .reader)) refl refl
-  where
-    never-taken : {k : ℕ} {A : Type 0} → no-size k ≡ taken → A
-    never-taken h = absurd (let z : _≡_ {A = ℕ} 0 1 = cc in omega arith)
-
-    by-cases : (t u v w : Bool) → eqb (d .closed) 0 ≡ t → between (d .reader) ≡ w
-        → first (telling (no-size (d .closed)) d when not t ∷ telling (no-size 3) d when u ∷ telling (no-size 4) d when v ∷ telling (no-size 8) d when not w ∷ [])
-        (telling taken (sized d size)) .answer
-        ≡ taken
-        → (d .closed ≡ 0) × (between (d .reader) ≡ true)
-        × (first (telling (no-size (d .closed)) d when not t ∷ telling (no-size 3) d when u ∷ telling (no-size 4) d when v ∷ telling (no-size 8) d when not w ∷ [])
-        (telling taken (sized d size)) .deserializer
-        ≡ sized d size)
-    by-cases false u v w p q h = never-taken h
-    by-cases true true v w p q h = never-taken h
-    by-cases true false true w p q h = never-taken h
-    by-cases true false false false p q h = never-taken h
-    by-cases true false false true p q h = (eqb-true (d .closed) 0 p, q, refl)
+-- the input of a call that wants more
+call-leads : (d : ChunkDeserializer) (input payload : List ℕ) (used : ℕ) → next d input payload .answer ≡ more used → Leads d input (next d input payload .deserializer)
+call-leads d input payload used h =
+    let w = has-run d input payload used h in
+    let e = next-runs d input payload (w .1) (w .0) in
+    let q : run input d payload 0 .answer ≡ more (length input) = (rw e at h) ∙ ap more (more-uses-all d input payload used h) in
+    record {
+      runs = λ p n.
+          let s = from input d p payload n in
+          record { answer = s .answer ∙ (rw q); decoder = s .decoder ∙ ap (λ (o : Outcome). o .deserializer) (sym e) };
+    }
 
 -- what is known of an open decoder
 pub record Opened (start : ChunkDeserializer) (bytes : List ℕ) (d : ChunkDeserializer) : Type 0 where
@@ -102,110 +94,79 @@ pub record Opened (start : ChunkDeserializer) (bytes : List ℕ) (d : ChunkDeser
   pub starts : between (start .reader) ≡ true
   pub open-at-start : start .closed ≡ 0
   pub are-bytes : Bytes bytes
-  pub leads : (payload : List ℕ) (n : ℕ) → Leads start bytes d payload n
+  pub leads : Leads start bytes d
 
 -- at its start
 at-start : (start : ChunkDeserializer) → Reached start → between (start .reader) ≡ true → start .closed ≡ 0 → Opened start [] start
-unfolding run
 at-start start r b c = record {
   reached = r;
   starts = b;
   open-at-start = c;
   are-bytes = λ i. omega arith;
-  leads = λ payload n. record { wants = ap more (sym (add-zero n)); leaves = refl };
+  leads = leads-nowhere;
 }
 
 -- and then: it is as its bytes leave it
 module _ {start : ChunkDeserializer} {bytes : List ℕ} {d : ChunkDeserializer} (o : Opened start bytes d) where
   pub is-open : d .closed ≡ 0
   is-open =
-      let l = o .leads [] 0 in
-      let k = run-kept bytes start [] 0 .closed (0 + length bytes) (l .wants) in
-      ap (λ (x : ChunkDeserializer). x .closed) (sym (l .leaves)) ∙ k ∙ o .open-at-start
+      let s = o .leads .runs [] 0 in
+      ap (λ (x : ChunkDeserializer). x .closed) (sym (s .decoder)) ∙ run-kept bytes start [] 0 .closed (0 + length bytes) (s .answer) ∙ o .open-at-start
 
   pub same-room : d .room ≡ start .room
-  same-room = ap (λ (x : ChunkDeserializer). x .room) (sym (o .leads [] 0 .leaves)) ∙ run-kept bytes start [] 0 .room
+  same-room = ap (λ (x : ChunkDeserializer). x .room) (sym (o .leads .runs [] 0 .decoder)) ∙ run-kept bytes start [] 0 .room
 
   pub is-reached : Reached d
-  is-reached = rw (o .leads [] 0 .leaves) at (run-reached bytes start [] 0 (o .reached))
-
--- a call that is not answered 7 has run
-pub ran : (d : ChunkDeserializer) (input payload : List ℕ) → d .closed ≡ 0 → next d input payload .answer ≢ refused 7 0 → d .room ≤ length payload
-ran d input payload c n = by-length (ltb (length payload) (d .room)) refl
-  where
-    by-length : (t : Bool) → ltb (length payload) (d .room) ≡ t → d .room ≤ length payload
-    by-length true e = absurd (n (ap (λ (o : Outcome). o .answer) (next-short d input payload c (ltb-true (length payload) (d .room) e))))
-    by-length false e = ltb-false (length payload) (d .room) e
+  is-reached = rw (o .leads .runs [] 0 .decoder) at (run-reached bytes start [] 0 (o .reached))
 
 -- after a message it stands at a new start
 after-message : (d : ChunkDeserializer) (input payload : List ℕ) (type stream time long used : ℕ) → Reached d → d .closed ≡ 0
     → next d input payload .answer ≡ message type stream time long used
     → (between (next d input payload .deserializer .reader) ≡ true) × (next d input payload .deserializer .closed ≡ 0)
-unfolding run
-after-message d input payload type stream time long used r c h =
-    rw run-is (by-input input (rw run-is at h))
-  where
-    run-is : next d input payload ≡ run input d payload 0
-    run-is = next-runs d input payload c (ran d input payload c (λ e. refused-not-message (sym e ∙ h)))
+after-message d input payload type stream time long used r c =
+    next-by d input payload
+    (λ (o : Outcome). o .answer ≡ message type stream time long used → (between (o .deserializer .reader) ≡ true) × (o .deserializer .closed ≡ 0))
+    (λ closed h. refused-not-message h) (λ short h. refused-not-message h)
+    (λ o l h. let s = run-stood input d payload 0 r .handed type stream time long used h in (s .0, s .1 ∙ c))
 
-    by-input : (i : List ℕ) → run i d payload 0 .answer ≡ message type stream time long used
-        → (between (run i d payload 0 .deserializer .reader) ≡ true) × (run i d payload 0 .deserializer .closed ≡ 0)
-    by-input [] q = more-not-message q
-    by-input (x ∷ a) q = let s = run-stood a x d payload 0 r .handed type stream time long used q in (s .0, s .1 ∙ c)
+-- a size, or a decoder, that is taken is not refused
+never-taken : {k : ℕ} {A : Type 0} → no-size k ≡ taken → A
+never-taken h = absurd (let z : _≡_ {A = ℕ} 0 1 = cc in omega arith)
 
--- and after more wanted its bytes are more
-module _ {start : ChunkDeserializer} {bytes : List ℕ} {d : ChunkDeserializer} (o : Opened start bytes d) (input payload : List ℕ) (used : ℕ)
-    (h : next d input payload .answer ≡ more used) where
-  run-is : next d input payload ≡ run input d payload 0
-  run-is = let p = has-run d input payload used h in next-runs d input payload (p .1) (p .0)
-
-  leads-on : (p : List ℕ) (n : ℕ) → Leads start (bytes ++ input) (next d input payload .deserializer) p n
-  leads-on p n =
-      let f = follows bytes input start d p n (o .leads p n) in
-      let s = from input d (run bytes start p n .payload) payload (n + length bytes) in
-      let u : used ≡ length input = more-uses-all d input payload used h in
-      let q : run input d payload 0 .answer ≡ more used = rw run-is at h in
-      let e : shift (n + length bytes) (run input d payload 0) .answer ≡ more (n + length bytes + used) = rw q in
-      let l : n + length bytes + used ≡ n + length (bytes ++ input) = simp length-append (omega (arith, u)) in
-      record {
-        wants = ap (λ (x : Outcome). x .answer) f ∙ s .answer ∙ e ∙ ap more l;
-        leaves = ap (λ (x : Outcome). x .deserializer) f ∙ s .decoder ∙ ap (λ (x : Outcome). x .deserializer) (sym run-is);
-      }
+-- a new start, where a decoder was made or took a size
+abbrev Starts : Told → Type 0
+Starts o = o .answer ≡ taken → Reached (o .deserializer) → Opened (o .deserializer) [] (o .deserializer)
 
 pub opened-of : {start d : ChunkDeserializer} {bytes : List ℕ} → Open start bytes d → Opened start bytes d
 opened-of (opened room h) =
-    let e = made-taken room h in
-    at-start (made room .deserializer) (made-reached room) (rw e) (rw e)
+    made-by room Starts
+    (λ bad h. never-taken h) (λ good h r. at-start (fresh room 0) r refl refl) h (made-reached room)
 opened-of (resized {d = d} o size h) =
     let k = opened-of o in
-    let t = told-taken d size h in
-    at-start (told d size .deserializer) (told-reached d size (is-reached k)) (rw (t .2) (t .1)) (rw (t .2) (t .0))
+    told-by d size Starts
+    (λ k h. never-taken h) (λ c b h r. at-start (sized d size) r b c) h (told-reached d size (is-reached k))
 opened-of (handed {d = d} o input payload b type stream time long used h) =
     let k = opened-of o in
     let a = after-message d input payload type stream time long used (is-reached k) (is-open k) h in
     at-start (next d input payload .deserializer) (next-reached d input payload (is-reached k)) (a .0) (a .1)
-opened-of (wanted {start = start} {bytes = bytes} o input payload b used h) =
+opened-of (wanted {d = d} {bytes = bytes} o input payload b used h) =
     let k = opened-of o in
     record {
       reached = k .reached;
       starts = k .starts;
       open-at-start = k .open-at-start;
       are-bytes = bytes-append bytes input (k .are-bytes) b;
-      leads = leads-on k input payload used h;
+      leads = leads-on (k .leads) (call-leads d input payload used h);
     }
 
--- it stands between messages exactly where it has used no byte since its start
-pub stands : {start d : ChunkDeserializer} {bytes : List ℕ} → Opened start bytes d → 0 < length bytes → between (d .reader) ≡ false
-stands {start} {d} {bytes} o h = by-bytes bytes h (o .leads [] 0)
-  where
-    by-bytes : (b : List ℕ) → 0 < length b → Leads start b d [] 0 → between (d .reader) ≡ false
-    by-bytes [] h l = absurd (omega arith)
-    by-bytes (x ∷ a) h l = rw (l .leaves) at (run-stood a x start [] 0 (o .reached) .wanted (0 + length (x ∷ a)) (l .wants))
-
-pub stands-at-start : {start d : ChunkDeserializer} {bytes : List ℕ} → Opened start bytes d → length bytes ≡ 0 → between (d .reader) ≡ true
+-- a decoder that stood between messages still does exactly where it has used no byte since
+pub stands : {start d : ChunkDeserializer} {a : List ℕ} → Reached start → between (start .reader) ≡ true → Leads start a d
+    → Decides (not (between (d .reader))) (0 < length a)
 unfolding run
-stands-at-start {start} {d} {bytes} o h = by-bytes bytes h (o .leads [] 0)
+stands {start} {d} {a} r b l = by-bytes a l
   where
-    by-bytes : (b : List ℕ) → length b ≡ 0 → Leads start b d [] 0 → between (d .reader) ≡ true
-    by-bytes [] h l = rw (l .leaves) at (o .starts)
-    by-bytes (x ∷ a) h l = absurd (omega arith)
+    by-bytes : (a : List ℕ) → Leads start a d → Decides (not (between (d .reader))) (0 < length a)
+    by-bytes [] l = rw (← l .runs [] 0 .decoder, b) (record { yes = λ e. clash refl e; no = λ e h. omega arith })
+    by-bytes (x ∷ a) l =
+        let w : between (d .reader) ≡ false = rw (l .runs [] 0 .decoder) at (run-stood (x ∷ a) start [] 0 r .wanted (0 + length (x ∷ a)) (l .runs [] 0 .answer) (λ e. absurd (omega arith))) in
+        rw w (record { yes = λ e. omega arith; no = λ e. clash e refl })

@@ -1,9 +1,10 @@
 -- Document 01's table, in its order: each row is proved in the file of its entry point.
+use mathlib.Core.Logic.{inl, inr, ⊎-elim}
 use native.Mathlib.Omega.{arith}
 use Rattle.deserializer.proofs.Runs.{next-closed}
 use Rattle.refusal_table.specs.Table.{ClosedStays, NoOther, RefusalTable}
 use Rattle.refusal_table.proofs.Bodies.{body-15, body-16, body-no-other, write-5, write-no-other}
-use Rattle.refusal_table.proofs.Calls.{call-7, call-at, call-no-other}
+use Rattle.refusal_table.proofs.Calls.{call-7, call-at, call-refused}
 use Rattle.refusal_table.proofs.Encoder.{length-1, length-2, length-no-other, message-rows, size-rows}
 use Rattle.refusal_table.proofs.Histories.{open-or-closed}
 use Rattle.refusal_table.proofs.Settling.{settles-9, settles-10, settles-11, settles-12, settles-13, settles-14}
@@ -47,6 +48,6 @@ no-other = record {
   read-body = body-no-other;
   new = new-no-other;
   tell-size = λ start bytes d o size. told-rows start bytes d o size .no-other;
-  call = call-no-other;
+  call = λ start bytes d o input payload b k n h. ⊎-elim inl (λ c. inr (c .0)) (call-refused start bytes d o input payload b k n h);
   open-or-closed = open-or-closed;
 }

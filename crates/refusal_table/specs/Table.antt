@@ -1,5 +1,5 @@
 -- Document 01's table, "Numbers of refusal": at each entry point that can give a number, given exactly when, and what it leaves.
-use Prim.Native.Nat.{ℕ, _<_}
+use Prim.Native.Nat.{ℕ, _≤_, _<_}
 use mathlib.Core.List.{List, [], _∷_}
 use mathlib.Core.Logic.{_↔_, _≢_, _⊎_}
 use mathlib.Core.Path.{_≡_}
@@ -13,14 +13,15 @@ use Rattle.user_control.specs.Writing.{leaves, writing}
 use Rattle.serializer.specs.declared.ChunkSerializer.{ChunkSerializer}
 use Rattle.serializer.specs.declared.format.Message.{Message}
 use Rattle.serializer.specs.Answer.{refused as no-packet}
-use Rattle.serializer.specs.Remembered.{packetOf}
 use Rattle.serializer.specs.Serialize.{Outcome as Encoded, needed, serialized, sizeChanged, sizeMessage}
+use Rattle.serializer.specs.Remembered.{packetOf}
 use Rattle.chunk_header.specs.Layout.{Chunk}
 use Rattle.deserializer.specs.declared.ChunkDeserializer.{ChunkDeserializer}
 use Rattle.deserializer.specs.Answer.{refused}
 use Rattle.deserializer.specs.Call.{next, outcome}
+use Rattle.byte_machine.specs.Rows.{rowAt}
 use Rattle.deserializer.specs.Told.{fresh, made, outcome as telling, refused as no-size, told}
-use Rattle.refusal_table.specs.Conditions.{Inside, eight, nine, ten, eleven, twelve, thirteen, fourteen, fifteen, sixteen, basic, head, headFor12}
+use Rattle.refusal_table.specs.Conditions.{Inside, eight, nine, ten, eleven, twelve, thirteen, fourteen, fifteen, sixteen, basic, head, headFor12, type}
 use Rattle.refusal_table.specs.History.{Closed, Made, Open, Settled, Taken}
 use Rattle.refusal_table.specs.Terms.{OneOf, Row, _unless_}
 
@@ -121,6 +122,15 @@ InsideMeans =
     (start : ChunkDeserializer) (bytes : List ℕ) (d : ChunkDeserializer) → Open start bytes d → (earlier : List ℕ) (decoder : ChunkDeserializer)
     → Taken start earlier decoder
     → Inside decoder ↔ 0 < length earlier
+
+-- 14 is of the length in a chunk's own header: no decoder that calls can make has a row whose length is over its room, so a first chunk of type 2 or 3 is never 14
+pub record RowsFit : Type 0 where
+  pub rows : (d : ChunkDeserializer) → Made d → (i : ℕ) → i < 64 → rowAt (d .rows) i .«message_length» ≤ d .room
+  pub types : (start : ChunkDeserializer) (bytes : List ℕ) (d : ChunkDeserializer) → Open start bytes d → (earlier : List ℕ) (decoder : ChunkDeserializer)
+      → Taken start earlier decoder
+      → (c : Chunk)
+      → fourteen decoder c
+      → OneOf (type c) (0 ∷ 1 ∷ [])
 
 -- and no entry point gives a number that the table does not name for it; a decoder that calls can make is open, or closed with one that closes
 pub record NoOther : Type 0 where

@@ -14,15 +14,15 @@ use Rattle.serializer.specs.declared.format.Message.{Message}
 use Rattle.serializer.specs.Message.{chunkStream}
 
 -- "the delta is the wrapped difference to the remembered timestamp"
-unfoldable pub delta : Message → ChunkHeader → ℕ
+unfoldable pub delta : Message → (previous : ChunkHeader) → ℕ
 delta m previous = difference (m .timestamp .value) (previous .timestamp .value)
 
 -- the row is this chunk stream's: something is remembered
-abbrev pub remembered : Message → ChunkHeader → Bool
+abbrev pub remembered : Message → (previous : ChunkHeader) → Bool
 remembered m previous = eqb (previous .«chunk_stream_id») (chunkStream (m .«type_id»))
 
 -- the five rules for the first chunk of a message, in their order
-unfoldable pub format : Message → ChunkHeader → ChunkHeaderFormat
+unfoldable pub format : Message → (previous : ChunkHeader) → ChunkHeaderFormat
 format m previous =
     first (Full when (m .«force_uncompressed» || (not (remembered m previous) || previous .«can_be_dropped»))
     ∷ Full when not (eqb (m .«stream_id») (previous .«message_stream_id»))
@@ -31,11 +31,11 @@ format m previous =
     ∷ []) Empty
 
 -- all 32 bits of the time field: the absolute time in type 0, else the delta
-abbrev pub timeField : ChunkHeaderFormat → ℕ → ℕ → ℕ
+abbrev pub timeField : ChunkHeaderFormat → (time delta : ℕ) → ℕ
 timeField format time delta = cond (isFull format) time delta
 
 -- what is remembered
-abbrev pub header : Message → ChunkHeader → ChunkHeader
+abbrev pub header : Message → (previous : ChunkHeader) → ChunkHeader
 header m previous = record {
   «chunk_stream_id» = chunkStream (m .«type_id»);
   timestamp = m .timestamp;
@@ -46,5 +46,5 @@ header m previous = record {
   «can_be_dropped» = m .«can_be_dropped»;
 }
 
-abbrev pub firstChunk : Message → ChunkHeader → FirstChunk
+abbrev pub firstChunk : Message → (previous : ChunkHeader) → FirstChunk
 firstChunk m previous = record { format = format m previous; header = header m previous }

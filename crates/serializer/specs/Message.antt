@@ -17,7 +17,7 @@ message type stream time length forced droppable = record {
 }
 
 -- "1 to 6 go on 2; 18, 19 on 3; 9 on 4; 8 on 5; any other on 6"
-unfoldable pub chunkStream : ℕ → ℕ
+unfoldable pub chunkStream : (type : ℕ) → ℕ
 chunkStream type =
     first (2 when (leb 1 type && leb type 6)
     ∷ 3 when (eqb type 18 || eqb type 19)

@@ -24,7 +24,7 @@ abbrev pub previous : ChunkSerializer → Message → ChunkHeader
 previous s m = getD (s .«previous_headers») (rowOf m) nothing
 
 -- the encoder with the message's header remembered, and a chunk size
-abbrev pub remember : ChunkSerializer → Message → ℕ → ChunkSerializer
+abbrev pub remember : ChunkSerializer → Message → (size : ℕ) → ChunkSerializer
 remember s m size = record { «previous_headers» = set (s .«previous_headers») (rowOf m) (header m (previous s m)); «max_chunk_size» = size }
 
 -- the chunk size in force, which no call makes 0
@@ -32,8 +32,8 @@ abbrev pub sizeOf : ChunkSerializer → ℕ
 sizeOf s = max 1 (s .«max_chunk_size»)
 
 -- what is decided of a packet before its first byte
-abbrev pub planned : Message → ChunkHeader → ℕ → Plan
+abbrev pub planned : Message → (previous : ChunkHeader) → (size : ℕ) → Plan
 planned m previous size = record { first = firstChunk m previous; later = laterFormat (m .«force_uncompressed»); size = max 1 size }
 
-abbrev pub packetOf : ChunkSerializer → Message → List ℕ → List ℕ
+abbrev pub packetOf : ChunkSerializer → Message → (payload : List ℕ) → List ℕ
 packetOf s m payload = packet (sizeOf s) m payload (previous s m)

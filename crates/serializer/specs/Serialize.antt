@@ -21,42 +21,42 @@ pub record Outcome : Type 0 where
   pub serializer : ChunkSerializer
   pub output : List ℕ
 
-abbrev pub outcomeOf : Serialized → List ℕ → Outcome
+abbrev pub outcomeOf : Serialized → (output : List ℕ) → Outcome
 outcomeOf r output = record { answer = answerOf (r .packet); serializer = r .serializer; output = output }
 
 -- a refusal leaves all as before
-abbrev pub refuse : ChunkSerializer → List ℕ → ℕ → Outcome
+abbrev pub refuse : ChunkSerializer → (output : List ℕ) → (number : ℕ) → Outcome
 refuse s output n = record { answer = refused n; serializer = s; output = output }
 
 -- the packet at the start of the output, the header remembered, and a chunk size from now on
-abbrev pub accept : ChunkSerializer → Message → List ℕ → ℕ → List ℕ → Outcome
+abbrev pub accept : ChunkSerializer → Message → (payload : List ℕ) → (size : ℕ) → (output : List ℕ) → Outcome
 accept s m payload size output =
     record { answer = wrote (length (packetOf s m payload)); serializer = remember s m size; output = over (packetOf s m payload) output }
 
 -- a packet sent, or 5: "output shorter than the exact bytes needed"
-unfoldable pub sent : ChunkSerializer → Message → List ℕ → ℕ → List ℕ → Outcome
+unfoldable pub sent : ChunkSerializer → Message → (payload : List ℕ) → (size : ℕ) → (output : List ℕ) → Outcome
 sent s m payload size output = first (refuse s output 5 when ltb (length output) (length (packetOf s m payload)) ∷ []) (accept s m payload size output)
 
 -- "encoding 1, 2, 5"
-unfoldable pub serialized : ChunkSerializer → Message → List ℕ → List ℕ → Outcome
+unfoldable pub serialized : ChunkSerializer → Message → (payload output : List ℕ) → Outcome
 serialized s m payload output =
     first (refuse s output 1 when eqb (length payload) 0
     ∷ refuse s output 2 when ltb maxLength (length payload)
     ∷ []) (sent s m payload (s .«max_chunk_size») output)
 
 -- "message type 1, stream 0, forced, not droppable, its body the new size in four bytes"
-abbrev pub sizeMessage : ℕ → Message
+abbrev pub sizeMessage : (time : ℕ) → Message
 sizeMessage time = message 1 0 time 4 true false
 
 -- "size change at the encoder 3, 4, 5"; "cut by the old size; the new size holds afterwards"
-unfoldable pub sizeChanged : ChunkSerializer → ℕ → ℕ → List ℕ → Outcome
+unfoldable pub sizeChanged : ChunkSerializer → (size time : ℕ) → (output : List ℕ) → Outcome
 sizeChanged s size time output =
     first (refuse s output 3 when eqb size 0
     ∷ refuse s output 4 when ltb maxSize size
     ∷ []) (sent s (sizeMessage time) (bigEndian 4 size) size output)
 
 -- what a message takes, were the output long enough
-unfoldable pub needed : ChunkSerializer → Message → List ℕ → Answer
+unfoldable pub needed : ChunkSerializer → Message → (payload : List ℕ) → Answer
 needed s m payload =
     first (refused 1 when eqb (length payload) 0
     ∷ refused 2 when ltb maxLength (length payload)

@@ -6,14 +6,14 @@ use Rattle.time.specs.declared.Order.{Order}
 use Rattle.time.specs.declared.Order.the-variants.{Earlier, Same, Later}
 
 -- sums and differences modulo 2 ^ 32
-abbrev pub sum : ℕ → ℕ → ℕ
+abbrev pub sum : (a b : ℕ) → ℕ
 sum a b = (a + b) % 2 ^ 32
 
-abbrev pub difference : ℕ → ℕ → ℕ
+abbrev pub difference : (a b : ℕ) → ℕ
 difference a b = (2 ^ 32 + a - b) % 2 ^ 32
 
 -- how far apart two plain numbers lie
-abbrev pub apart : ℕ → ℕ → ℕ
+abbrev pub apart : (a b : ℕ) → ℕ
 apart a b = (a - b) + (b - a)
 
 -- how far apart numbers may lie and still compare as numbers: Adobe's 2 ^ 31 - 1
@@ -21,7 +21,7 @@ abbrev pub adjacent : ℕ
 adjacent = 2147483647
 
 -- as numbers compare
-abbrev pub numeric : ℕ → ℕ → Order
+abbrev pub numeric : (a b : ℕ) → Order
 numeric a b = cond (ltb a b) Earlier (cond (eqb a b) Same Later)
 
 abbrev pub reverse : Order → Order
@@ -30,5 +30,5 @@ reverse Same = Same
 reverse Later = Earlier
 
 -- "differ as plain numbers by at most 2147483647 compare as numbers; beyond that the order is reversed"
-unfoldable pub order : ℕ → ℕ → Order
+unfoldable pub order : (a b : ℕ) → Order
 order a b = cond (leb (apart a b) adjacent) (numeric a b) (reverse (numeric a b))

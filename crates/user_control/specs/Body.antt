@@ -45,7 +45,7 @@ fours [] = []
 fours (n ∷ ns) = bigEndian 4 n ++ fours ns
 
 -- "two-byte code, then big-endian numbers"
-abbrev pub bodyOf : ℕ → List ℕ → List ℕ
+abbrev pub bodyOf : (code : ℕ) → (numbers : List ℕ) → List ℕ
 bodyOf c ns = bigEndian 2 c ++ fours ns
 
 abbrev pub body : UserControlEvent → List ℕ

@@ -13,28 +13,28 @@ abbrev pub codeIn : List ℕ → ℕ
 codeIn bytes = number (take 2 bytes)
 
 -- n numbers of four bytes
-abbrev pub numbersIn : ℕ → List ℕ → List ℕ
+abbrev pub numbersIn : (n : ℕ) → (bytes : List ℕ) → List ℕ
 numbersIn zero bytes = []
 numbersIn (suc n) bytes = number (take 4 bytes) ∷ numbersIn n (drop 4 bytes)
 
-abbrev pub among : ℕ → List ℕ → Bool
+abbrev pub among : (code : ℕ) → (codes : List ℕ) → Bool
 among c [] = false
 among c (k ∷ ks) = eqb c k || among c ks
 
 -- the codes that an event has
-unfoldable pub known : ℕ → Bool
+unfoldable pub known : (code : ℕ) → Bool
 known c = among c (0 ∷ 1 ∷ 2 ∷ 3 ∷ 4 ∷ 6 ∷ 7 ∷ 31 ∷ 32 ∷ [])
 
 -- how many numbers follow a known code: stream id and buffer length after 3, else one
-unfoldable pub count : ℕ → ℕ
+unfoldable pub count : (code : ℕ) → ℕ
 count c = cond (eqb c 3) 2 1
 
 -- "so 6 bytes, or 10 for code 3"
-abbrev pub bodyLength : ℕ → ℕ
+abbrev pub bodyLength : (code : ℕ) → ℕ
 bodyLength c = 2 + 4 * count c
 
 -- the table of body lengths by code, 0 where no event has the code
-unfoldable pub lengthOr0 : ℕ → ℕ
+unfoldable pub lengthOr0 : (code : ℕ) → ℕ
 lengthOr0 c = cond (known c) (bodyLength c) 0
 
 -- under 2 bytes, or a known code with fewer bytes than it needs

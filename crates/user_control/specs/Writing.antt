@@ -11,13 +11,13 @@ use Rattle.user_control.specs.declared.Serialized.{Serialized}
 use Rattle.user_control.specs.Answer.{Answer, wrote, refused, writeAnswer}
 
 -- the output is shorter than the exact bytes needed
-abbrev pub lacks : List ℕ → List ℕ → Bool
+abbrev pub lacks : (output bytes : List ℕ) → Bool
 lacks output bytes = ltb (length output) (length bytes)
 
-unfoldable pub writing : List ℕ → List ℕ → Answer
+unfoldable pub writing : (bytes output : List ℕ) → Answer
 writing bytes output = first (refused 5 when lacks output bytes ∷ []) (wrote (length bytes))
 
-unfoldable pub leaves : List ℕ → List ℕ → List ℕ
+unfoldable pub leaves : (bytes output : List ℕ) → List ℕ
 leaves bytes output = cond (lacks output bytes) output (over bytes output)
 
 -- what writing these bytes promises of its answer and of the output at exit

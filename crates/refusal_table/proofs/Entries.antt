@@ -1,0 +1,40 @@
+-- What making a decoder, telling it a size and calling it come to: the first of their tests that holds decides.
+use Prim.Native.Nat.{ℕ, _≤_, _<_}
+use mathlib.Core.Bool.{true}
+use mathlib.Core.List.{List}
+use mathlib.Core.Logic.{_≢_, _⊎_}
+use mathlib.Core.Path.{_≡_}
+use native.Mathlib.Omega.{arith}
+use lib.ListN.{length}
+use Rattle.chunk_header.specs.Limits.{maxSize}
+use Rattle.deserializer.specs.declared.ChunkDeserializer.{ChunkDeserializer}
+use Rattle.deserializer.specs.Answer.{refused}
+use Rattle.deserializer.specs.Call.{Outcome, next, outcome, run}
+use Rattle.deserializer.specs.Told.{Outcome as Told, between, fresh, made, maxRoom, outcome as telling, refused as no-size, sized, taken, told}
+use Rattle.refusal_table.proofs.Deciding.{equal, itself, less, not-decides, not-not, one-of, tested}
+
+pub made-by : (room : ℕ) (P : Told → Type 0) → ((room ≡ 0) ⊎ (maxRoom < room) → P (telling (no-size 6) (fresh room 6)))
+    → (¬ ((room ≡ 0) ⊎ (maxRoom < room)) → P (telling taken (fresh room 0)))
+    → P (made room)
+unfolding made
+made-by room P refuses takes = tested P (one-of (equal room 0) (less maxRoom room)) refuses takes
+
+pub told-by : (d : ChunkDeserializer) (size : ℕ) (P : Told → Type 0) → ((k : ℕ) → P (telling (no-size k) d))
+    → (d .closed ≡ 0 → between (d .reader) ≡ true → P (telling taken (sized d size)))
+    → P (told d size)
+unfolding told
+told-by d size P refuses takes =
+    tested P (not-decides (equal (d .closed) 0)) (λ h. refuses (d .closed))
+    (λ opened. tested P (equal size 0) (λ h. refuses 3)
+    (λ n. tested P (less maxSize size) (λ h. refuses 4)
+    (λ m. tested P (not-decides (itself (between (d .reader)))) (λ h. refuses 8)
+    (λ b. takes (not-not (equal (d .closed) 0) opened) (not-not (itself (between (d .reader))) b)))))
+
+pub next-by : (d : ChunkDeserializer) (input payload : List ℕ) (P : Outcome → Type 0) → (d .closed ≢ 0 → P (outcome (refused (d .closed) 0) d payload))
+    → (length payload < d .room → P (outcome (refused 7 0) d payload))
+    → (d .closed ≡ 0 → d .room ≤ length payload → P (run input d payload 0))
+    → P (next d input payload)
+unfolding next
+next-by d input payload P closed short runs =
+    tested P (not-decides (equal (d .closed) 0)) closed
+    (λ opened. tested P (less (length payload) (d .room)) short (λ long. runs (not-not (equal (d .closed) 0) opened) (omega (arith, long))))
