@@ -1,5 +1,5 @@
 -- A chunk on the wire (Adobe 5.3.1): basic header, message header, extended timestamp, data.
-use Prim.Native.Nat.{ℕ, _+_, _-_, _*_}
+use Prim.Native.Nat.{ℕ, _+_, _-_, _*_, _^_, _≤_, _<_}
 use mathlib.Core.List.{List, [], _∷_, _++_}
 use Rattle.fields.specs.Endian.{bigEndian, littleEndian}
 
@@ -27,6 +27,19 @@ pub record Chunk : Type 0 where
   pub header : Header
   pub extended : Extended
   pub payload : List ℕ
+
+-- the ids that each basic header form can say (Adobe 5.3.1.1)
+abbrev pub FormFits : Form → ℕ → Type 0
+FormFits one id = (2 ≤ id) × (id ≤ 63)
+FormFits two id = (64 ≤ id) × (id ≤ 319)
+FormFits three id = (64 ≤ id) × (id ≤ 65599)
+
+-- each number of a header fits its field
+abbrev pub HeaderFits : Header → Type 0
+HeaderFits (type0 time length type stream) = (time < 2 ^ 24) × (length < 2 ^ 24) × (type < 2 ^ 8) × (stream < 2 ^ 32)
+HeaderFits (type1 delta length type) = (delta < 2 ^ 24) × (length < 2 ^ 24) × (type < 2 ^ 8)
+HeaderFits (type2 delta) = delta < 2 ^ 24
+HeaderFits type3 = Unit {0}
 
 -- the two high bits of the first byte
 abbrev pub format : Header → ℕ

@@ -11,14 +11,14 @@ use lib.Seq.{sets}
 use borrow.Author.Tests.{eqb-true, eqb-false, lt-ltb, ne-eqb}
 use Rattle.chunk_header.specs.declared.ChunkHeaderFormat.{ChunkHeaderFormat}
 use Rattle.chunk_header.specs.declared.ChunkHeaderFormat.the-variants.{Full, TimeDeltaWithoutMessageStreamId, TimeDeltaOnly, Empty}
-use Rattle.chunk_header.specs.Layout.{Chunk, Header, type0, type1, type2, type3, chunkBytes}
+use Rattle.chunk_header.specs.Layout.{Chunk, Header, type0, type1, type2, type3, chunkBytes, FormFits}
 use Rattle.deserializer.specs.declared.ChunkDeserializer.{ChunkDeserializer}
 use Rattle.byte_machine.specs.declared.reader.Reader.{Reader}
 use Rattle.byte_machine.specs.declared.reader.Stage.the-variants.{Csid}
 use Rattle.chunk_meaning.specs.declared.Row.{Row}
 use Rattle.deserializer.specs.Answer.{refused}
 use Rattle.deserializer.specs.Call.{Outcome, after, run}
-use Rattle.deserializer.specs.Chunk.{ChunkFits, FormFits, HeadFits, basicRefused, carried, formatFor, got, header, headerRefused, inside, left, row, says}
+use Rattle.deserializer.specs.Chunk.{ChunkFits, HeadFits, basicRefused, carried, formatFor, got, header, headerRefused, inside, left, row, says}
 use Rattle.byte_machine.specs.Reader.{refuse}
 use Rattle.chunk_meaning.specs.Meaning.{basicRefusal, firstRefusal, laterRefusal}
 use Rattle.chunk_header.specs.Table.{isEmpty, isFull}

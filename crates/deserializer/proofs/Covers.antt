@@ -10,10 +10,10 @@ use borrow.Author.Tests.{eqb-true, eqb-false}
 use Rattle.fields.specs.Endian.{Bytes, bigEndian, gather, littleEndian, number}
 use Rattle.fields.proofs.Endian.{number-lt}
 use Rattle.fields.proofs.Lists.{bytes-drop, bytes-take, big-take}
-use Rattle.chunk_header.specs.Layout.{Chunk, Form, one, two, three, Header, type0, type1, type2, type3, Extended, absent, present, basicBytes, headerBytes, extendedBytes, chunkBytes, format}
+use Rattle.chunk_header.specs.Layout.{Chunk, Form, one, two, three, Header, type0, type1, type2, type3, Extended, absent, present, basicBytes, headerBytes, extendedBytes, chunkBytes, format, FormFits, HeaderFits}
 use Rattle.deserializer.specs.declared.ChunkDeserializer.{ChunkDeserializer}
 use Rattle.chunk_meaning.specs.declared.Row.{Row}
-use Rattle.deserializer.specs.Chunk.{ChunkFits, ExtendedFits, FormFits, HeaderFits, carried, header, left, row, rowOf}
+use Rattle.deserializer.specs.Chunk.{ChunkFits, ExtendedFits, carried, header, left, row, rowOf}
 use Rattle.chunk_header.specs.Limits.{maxField}
 use Rattle.deserializer.proofs.Reading.{last-digit, other-digits}
 

@@ -14,7 +14,7 @@ use Rattle.fields.proofs.Endian.{bytes-little, length-little, number-lt}
 use Rattle.fields.proofs.Lists.{big-take, bytes-drop, bytes-take}
 use Rattle.chunk_header.specs.declared.ChunkHeaderFormat.{ChunkHeaderFormat}
 use Rattle.chunk_header.specs.declared.ChunkHeaderFormat.the-variants.{Full, TimeDeltaWithoutMessageStreamId, TimeDeltaOnly, Empty}
-use Rattle.chunk_header.specs.Layout.{Chunk, absent, format as type-number, headerBytes, one}
+use Rattle.chunk_header.specs.Layout.{Chunk, absent, format as type-number, headerBytes, one, HeaderFits}
 use Rattle.chunk_header.specs.Table.{fieldLength, headerLength, typeOf}
 use Rattle.chunk_header.proofs.Table.{type-of-byte}
 use Rattle.deserializer.specs.declared.ChunkDeserializer.{ChunkDeserializer}
@@ -24,7 +24,7 @@ use Rattle.byte_machine.specs.declared.reader.Stage.{Stage}
 use Rattle.byte_machine.specs.declared.reader.Stage.the-variants.{Csid, CsidSecond, CsidThird, InitialTimestamp, MessageLength, MessageTypeId, MessageStreamId, ExtendedTimestamp, MessagePayload}
 use Rattle.chunk_meaning.specs.declared.Row.{Row}
 use Rattle.deserializer.specs.Call.{run}
-use Rattle.deserializer.specs.Chunk.{HeadFits, HeaderFits, basicRefused, carried, formatFor, got, header, headerRefused, row}
+use Rattle.deserializer.specs.Chunk.{HeadFits, basicRefused, carried, formatFor, got, header, headerRefused, row}
 use Rattle.deserializer.specs.Head.{Heads, Known, headerIn, refusalOf, settledBy}
 use Rattle.byte_machine.specs.Step.{stepped, swapped}
 use Rattle.byte_machine.specs.Header.{opens}

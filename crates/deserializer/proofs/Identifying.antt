@@ -8,7 +8,7 @@ use Rattle.fields.specs.Endian.{littleEndian}
 use Rattle.chunk_header.specs.declared.ChunkHeaderFormat.{ChunkHeaderFormat}
 use Rattle.chunk_header.specs.declared.Csid.the-variants.{Id}
 use Rattle.chunk_header.specs.Basic.{csid}
-use Rattle.chunk_header.specs.Layout.{Form, one, two, three, basicBytes}
+use Rattle.chunk_header.specs.Layout.{Form, one, two, three, basicBytes, FormFits}
 use Rattle.chunk_header.specs.Table.{typeOf}
 use Rattle.chunk_header.proofs.Table.{format-back}
 use Rattle.chunk_header.proofs.Basic.{csid-one, csid-one-short, csid-small, csid-zero, csid-zero-short}
@@ -16,7 +16,6 @@ use Rattle.deserializer.specs.declared.ChunkDeserializer.{ChunkDeseriali
 use Rattle.byte_machine.specs.declared.reader.Reader.{Reader}
 use Rattle.byte_machine.specs.declared.reader.Stage.the-variants.{Csid, CsidSecond, CsidThird}
 use Rattle.deserializer.specs.Call.{after, run}
-use Rattle.deserializer.specs.Chunk.{FormFits}
 use Rattle.byte_machine.specs.Step.{basic, named}
 use Rattle.byte_machine.specs.Reader.{at}
 use Rattle.deserializer.proofs.Fields.{Reaches}

@@ -9,7 +9,7 @@ use lib.ListN.{length, length-append}
 use borrow.Author.Tests.{eq-eqb, ne-eqb}
 use Rattle.fields.specs.Endian.{bigEndian, littleEndian, gather}
 use Rattle.fields.proofs.Endian.{bytes-big, bytes-little, length-big, length-little, number-big}
-use Rattle.chunk_header.specs.Layout.{Header, type0, type1, type2, type3, headerBytes, Extended, absent, present, extendedBytes}
+use Rattle.chunk_header.specs.Layout.{Header, type0, type1, type2, type3, headerBytes, Extended, absent, present, extendedBytes, HeaderFits}
 use Rattle.chunk_header.specs.Table.{fieldLength}
 use Rattle.deserializer.specs.declared.ChunkDeserializer.{ChunkDeserializer}
 use Rattle.byte_machine.specs.declared.reader.Reader.{Reader}
@@ -19,7 +19,7 @@ use Rattle.byte_machine.specs.declared.reader.Stepped.{Stepped}
 use Rattle.byte_machine.specs.declared.reader.Unfinished.{Unfinished}
 use Rattle.chunk_meaning.specs.declared.Row.{Row}
 use Rattle.deserializer.specs.Call.{Outcome, after, run}
-use Rattle.deserializer.specs.Chunk.{ExtendedFits, HeaderFits, carried, formatFor, says}
+use Rattle.deserializer.specs.Chunk.{ExtendedFits, carried, formatFor, says}
 use Rattle.byte_machine.specs.Step.{extendedField, lengthField, streamField, swapped, timestampField, typeField}
 use Rattle.byte_machine.specs.Header.{extendedNext, lengthNext, streamNext, timestampNext, typeNext, whole}
 use Rattle.byte_machine.specs.Reader.{at, current, headed, reader}

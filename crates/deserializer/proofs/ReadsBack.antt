@@ -11,7 +11,7 @@ use lib.ListN.{length, length-append}
 use lib.Seq.{sets}
 use borrow.Author.Tests.{eq-eqb, ne-eqb, eqb-true, eqb-false, le-ltb}
 use Rattle.chunk_header.specs.declared.ChunkHeaderFormat.the-variants.{Full}
-use Rattle.chunk_header.specs.Layout.{Chunk, Header, type0, type1, type2, type3, basicBytes, headerBytes, extendedBytes, chunkBytes, format}
+use Rattle.chunk_header.specs.Layout.{Chunk, Header, type0, type1, type2, type3, basicBytes, headerBytes, extendedBytes, chunkBytes, format, FormFits}
 use Rattle.chunk_header.specs.Table.{fieldLength, typeOf}
 use Rattle.deserializer.specs.declared.ChunkDeserializer.{ChunkDeserializer}
 use Rattle.byte_machine.specs.declared.reader.Event.the-variants.{Chunk as ChunkEnds, Message}
@@ -20,7 +20,7 @@ use Rattle.byte_machine.specs.declared.reader.Stage.{Stage}
 use Rattle.byte_machine.specs.declared.reader.Stage.the-variants.{Csid, MessagePayload}
 use Rattle.byte_machine.specs.declared.reader.Stepped.{Stepped}
 use Rattle.deserializer.specs.Call.{after, isRefusal, run}
-use Rattle.deserializer.specs.Chunk.{ChunkFits, FormFits, HeadFits, basicRefused, formatFor, got, header, headerRefused, inside, left, placeOf, row, says, stored}
+use Rattle.deserializer.specs.Chunk.{ChunkFits, HeadFits, basicRefused, formatFor, got, header, headerRefused, inside, left, placeOf, row, says, stored}
 use Rattle.byte_machine.specs.Payload.{landed}
 use Rattle.byte_machine.specs.Step.{named}
 use Rattle.byte_machine.specs.Header.{opens, timestampNext, whole}

@@ -1,5 +1,5 @@
 -- What a whole chunk does to a decoder between chunks (Adobe 5.3.1; document 01, "Decoder").
-use Prim.Native.Nat.{ℕ, _-_, _^_, _≤_, _<_, min}
+use Prim.Native.Nat.{ℕ, _-_, _^_, _<_, min}
 use mathlib.Core.Bool.{Bool, cond, not}
 use mathlib.Core.List.{List}
 use lib.Dec.{ltb, eqb}
@@ -8,7 +8,7 @@ use mathlib.Core.Logic.{_≢_}
 use mathlib.Core.Path.{_≡_}
 use Rattle.chunk_header.specs.declared.ChunkHeaderFormat.{ChunkHeaderFormat}
 use Rattle.chunk_header.specs.declared.ChunkHeaderFormat.the-variants.{Full, TimeDeltaWithoutMessageStreamId, TimeDeltaOnly, Empty}
-use Rattle.chunk_header.specs.Layout.{Chunk, Form, one, two, three, Header, type0, type1, type2, type3, Extended, absent, present}
+use Rattle.chunk_header.specs.Layout.{FormFits, HeaderFits, Chunk, Header, type0, type1, type2, type3, Extended, absent, present}
 use Rattle.deserializer.specs.declared.ChunkDeserializer.{ChunkDeserializer}
 use Rattle.chunk_meaning.specs.declared.Row.{Row}
 use Rattle.chunk_meaning.specs.Meaning.{basicRefusal, firstRefusal, firstTime, laterRefusal}
@@ -34,23 +34,10 @@ abbrev pub says : Extended → Row → ℕ
 says absent row = row .«timestamp_field»
 says (present time) row = time
 
--- each number of a header fits its field
-abbrev pub HeaderFits : Header → Type 0
-HeaderFits (type0 time length type stream) = (time < 2 ^ 24) × (length < 2 ^ 24) × (type < 2 ^ 8) × (stream < 2 ^ 32)
-HeaderFits (type1 delta length type) = (delta < 2 ^ 24) × (length < 2 ^ 24) × (type < 2 ^ 8)
-HeaderFits (type2 delta) = delta < 2 ^ 24
-HeaderFits type3 = Unit {0}
-
 -- an extended time is there exactly where the field is 16777215, and has 32 bits
 abbrev pub ExtendedFits : Extended → Row → Type 0
 ExtendedFits absent row = row .«timestamp_field» ≢ maxField
 ExtendedFits (present time) row = (row .«timestamp_field» ≡ maxField) × (time < 2 ^ 32)
-
--- the ids that each basic header form can say (Adobe 5.3.1.1)
-abbrev pub FormFits : Form → ℕ → Type 0
-FormFits one id = (2 ≤ id) × (id ≤ 63)
-FormFits two id = (64 ≤ id) × (id ≤ 319)
-FormFits three id = (64 ≤ id) × (id ≤ 65599)
 
 -- the place of a stream's row, and that row: its own, or the first free one, just claimed
 abbrev pub placeOf : (rows : List ℕ) → (id : ℕ) → ℕ

@@ -7,12 +7,12 @@ use mathlib.Core.Path.{_≡_, refl}
 use native.Mathlib.Omega.{arith}
 use lib.Dec.{ltb}
 use borrow.Author.Tests.{lt-ltb, ltb-false, ltb-true}
-use Rattle.chunk_header.specs.Layout.{Chunk, Form, one, two, three, Header, type0, type1, type2, type3, Extended, absent, present}
+use Rattle.chunk_header.specs.Layout.{Chunk, Form, one, two, three, Header, type0, type1, type2, type3, Extended, absent, present, FormFits}
 use Rattle.chunk_header.specs.Limits.{maxField}
 use Rattle.deserializer.specs.declared.ChunkDeserializer.{ChunkDeserializer}
 use Rattle.chunk_meaning.specs.declared.Row.{Row}
 use Rattle.chunk_meaning.specs.Stored.{claimed}
-use Rattle.deserializer.specs.Chunk.{ExtendedFits, FormFits, HeadFits, carried, header, rowOf}
+use Rattle.deserializer.specs.Chunk.{ExtendedFits, HeadFits, carried, header, rowOf}
 use Rattle.byte_machine.specs.Rows.{find, rowAt}
 use Rattle.deserializer.proofs.Reached.{Reached}
 use Rattle.byte_machine.proofs.RowLaws.{find-distinct, Distinct, find-none, find-tells, found}

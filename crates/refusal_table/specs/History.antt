@@ -4,11 +4,10 @@ use mathlib.Core.List.{List, [], _++_}
 use mathlib.Core.Path.{_≡_}
 use lib.ListN.{length, take}
 use Rattle.fields.specs.Endian.{Bytes}
-use Rattle.chunk_header.specs.Layout.{Chunk, Header, type0, type1, type2, type3, Extended, absent, present, chunkBytes}
+use Rattle.chunk_header.specs.Layout.{Chunk, Header, type0, type1, type2, type3, Extended, absent, present, chunkBytes, FormFits, HeaderFits}
 use Rattle.deserializer.specs.declared.ChunkDeserializer.{ChunkDeserializer}
 use Rattle.deserializer.specs.Answer.{message, more}
 use Rattle.deserializer.specs.Call.{next}
-use Rattle.deserializer.specs.Chunk.{FormFits, HeaderFits}
 use Rattle.deserializer.specs.Told.{made, taken, told}
 use Rattle.refusal_table.specs.Conditions.{HasRow, theRow}
 

@@ -9,12 +9,12 @@ use borrow.Author.Tests.{lt-ltb, ltb-true, ltb-false}
 use Rattle.chunk_header.specs.declared.ChunkHeader.{ChunkHeader}
 use Rattle.chunk_header.specs.declared.ChunkHeaderFormat.{ChunkHeaderFormat}
 use Rattle.chunk_header.specs.declared.ChunkHeaderFormat.the-variants.{Full, TimeDeltaWithoutMessageStreamId, TimeDeltaOnly, Empty}
-use Rattle.chunk_header.specs.Layout.{Chunk, absent, present}
+use Rattle.chunk_header.specs.Layout.{Chunk, absent, present, HeaderFits}
 use Rattle.serializer.specs.Packet.{extended, messageHeader}
 use Rattle.chunk_header.specs.Limits.{maxField}
 use Rattle.deserializer.specs.declared.ChunkDeserializer.{ChunkDeserializer}
 use Rattle.chunk_meaning.specs.declared.Row.{Row}
-use Rattle.deserializer.specs.Chunk.{ChunkFits, ExtendedFits, HeaderFits, basicRefused, headerRefused, row, stored, says}
+use Rattle.deserializer.specs.Chunk.{ChunkFits, ExtendedFits, basicRefused, headerRefused, row, stored, says}
 use Rattle.byte_machine.specs.Rows.{find}
 use Rattle.byte_machine.proofs.RowLaws.{find-tells}
 use Rattle.round_trip.proofs.Held.{Held}
