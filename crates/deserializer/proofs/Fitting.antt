@@ -25,7 +25,7 @@ use Rattle.byte_machine.specs.Payload.{landed, paid, pays}
 use Rattle.byte_machine.specs.Step.{basic, basicBy, claims, extendedField, gathered, known, lengthField, named, stepped, streamField, swapped, timestampField, typeField}
 use Rattle.byte_machine.specs.Header.{extendedNext, lacks, lengthNext, opens, stageOf, streamNext, timestampNext, typeNext, whole}
 use Rattle.byte_machine.specs.Reader.{at, current, ended, go, headed, inPayload, paused, reader, refuse, unfinished}
-use Rattle.chunk_meaning.specs.Meaning.{basicRefusal, firstRefusal, firstTime, laterRefusal}
+use Rattle.chunk_meaning.specs.Meaning.{basicRefusal, firstRefusal, laterRefusal}
 use Rattle.chunk_header.specs.Limits.{maxField}
 use Rattle.chunk_meaning.specs.Stored.{fielded, lengthed, streamed, timed, typed}
 use Rattle.byte_machine.specs.Rows.{find, free, putRow, rowAt, putAt}
@@ -241,7 +241,7 @@ module _ (room size L : ℕ) (some : 0 < size) where
       let none = eqb-true (r .message .id) 0 e in
       tested P (eqb k 0)
       (λ z.
-      opens-fits (headed r (timed (c .header) (firstTime (c .format) (c .before .timestamp .value) time))) 0
+      opens-fits _ 0
       (first-fits (c .format) (c .header) time room (eqb-true k 0 z))
       (λ n. omega arith)
       (λ n. absurd (n none))
@@ -255,7 +255,7 @@ module _ (room size L : ℕ) (some : 0 < size) where
       let own = says r l (later-length (c .format) (c .before) (c .header) time (eqb-true j 0 z)) in
       let got = f .got n in
       let fit = f .room-for n in
-      opens-fits (headed r (timed (c .header) (c .before .timestamp .value))) (r .message .got)
+      opens-fits _ (r .message .got)
       (omega arith)
       (λ m. omega arith)
       (λ m. own)
@@ -337,39 +337,29 @@ module _ (room size L : ℕ) (some : 0 < size) where
   byte-fits (CsidSecond a) rows r b e p q f = never p
   byte-fits (CsidThird a c) rows r b e p q f = never p
   byte-fits (InitialTimestamp before lacks) rows r b e p q f =
-      let n = gathered before b in
       let later = f .later (rw e) in
-      let h = fielded (r .chunk .header) n in
-      tested (Fitting room L (r .message .id)) (leb lacks 1) (λ z. length-fits (headed r h) (fits-headed room L r h refl f) (λ m. later-headed L r h refl (later m)))
-      (λ z.
-      go-fits (at r (InitialTimestamp n (lacks - 1)))
-      (fits-at room L r (InitialTimestamp n (lacks - 1)) (λ q. later) (λ q. f .full (rw e)) refl f))
+      let h = fielded (r .chunk .header) (gathered before b) in
+      tested (Fitting room L (r .message .id)) (leb lacks 1) (λ z. length-fits _ (fits-headed room L r h refl f) (λ m. later-headed L r h refl (later m)))
+      (λ z. go-fits _ (fits-at room L r _ (λ q. later) (λ q. f .full (rw e)) refl f))
   byte-fits (MessageLength before lacks) rows r b e p q f =
       let n = gathered before b in
       let later = f .later (rw e) in
       let full = f .full (rw e) in
       tested (Fitting room L (r .message .id)) (leb lacks 1)
-      (λ z.
-      type-fits (headed r (lengthed (r .chunk .header) n)) (fits-lengthed room L r n full (rw e) f) (λ m. later-lengthed L r n (full m) (later m)))
-      (λ z. go-fits (at r (MessageLength n (lacks - 1))) (fits-at room L r (MessageLength n (lacks - 1)) (λ q. later) (λ q. full) refl f))
+      (λ z. type-fits _ (fits-lengthed room L r n full (rw e) f) (λ m. later-lengthed L r n (full m) (later m)))
+      (λ z. go-fits _ (fits-at room L r _ (λ q. later) (λ q. full) refl f))
   byte-fits MessageTypeId rows r b e p q f =
       let h = typed (r .chunk .header) b in
-      stream-fits (headed r h) (fits-headed room L r h refl f) (λ m. later-headed L r h refl (f .later (rw e) m))
+      stream-fits _ (fits-headed room L r h refl f) (λ m. later-headed L r h refl (f .later (rw e) m))
   byte-fits (MessageStreamId before lacks) rows r b e p q f =
-      let n = gathered before b in
       let later = f .later (rw e) in
-      let h = streamed (r .chunk .header) (swapped n) in
-      tested (Fitting room L (r .message .id)) (leb lacks 1)
-      (λ z. extended-fits (headed r h) (fits-headed room L r h refl f) (λ m. later-headed L r h refl (later m)))
-      (λ z.
-      go-fits (at r (MessageStreamId n (lacks - 1))) (fits-at room L r (MessageStreamId n (lacks - 1)) (λ q. later) (λ q. f .full (rw e)) refl f))
+      let h = streamed (r .chunk .header) (swapped (gathered before b)) in
+      tested (Fitting room L (r .message .id)) (leb lacks 1) (λ z. extended-fits _ (fits-headed room L r h refl f) (λ m. later-headed L r h refl (later m)))
+      (λ z. go-fits _ (fits-at room L r _ (λ q. later) (λ q. f .full (rw e)) refl f))
   byte-fits (ExtendedTimestamp before lacks) rows r b e p q f =
-      let n = gathered before b in
       let later = f .later (rw e) in
-      tested (Fitting room L (r .message .id)) (leb lacks 1) (λ z. whole-fits r n f later)
-      (λ z.
-      go-fits (at r (ExtendedTimestamp n (lacks - 1)))
-      (fits-at room L r (ExtendedTimestamp n (lacks - 1)) (λ q. later) (λ q n. never q) refl f))
+      tested (Fitting room L (r .message .id)) (leb lacks 1) (λ z. whole-fits r (gathered before b) f later)
+      (λ z. go-fits _ (fits-at room L r _ (λ q. later) (λ q n. never q) refl f))
   byte-fits MessagePayload rows r b e p q f = never (sym q)
 
 -- so is a stage of such a field

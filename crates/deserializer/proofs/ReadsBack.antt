@@ -3,11 +3,11 @@ use Prim.Native.Nat.{ℕ, _+_, _-_, _≤_, _<_}
 use mathlib.Core.Path.{_≡_, refl, ap, _∙_}
 use mathlib.Core.Logic.{_≢_}
 use mathlib.Core.Bool.{Bool, true, false, cond}
-use mathlib.Core.List.{List, [], _∷_, _++_, append-assoc}
+use mathlib.Core.List.{List, [], _++_, append-assoc}
 use native.Mathlib.Nat.{add-zero}
 use native.Mathlib.Omega.{arith}
 use lib.Dec.{ltb, eqb}
-use lib.ListN.{length, length-append}
+use lib.ListN.{length, length-append, drop-of-length-le}
 use lib.Seq.{sets}
 use borrow.Author.Tests.{eq-eqb, ne-eqb, eqb-true, eqb-false, le-ltb}
 use Rattle.chunk_header.specs.declared.ChunkHeaderFormat.the-variants.{Full}
@@ -53,10 +53,6 @@ headOf c = headerBytes (c .header)
 
 abbrev pub extendedOf : Chunk → List ℕ
 extendedOf c = extendedBytes (c .extended)
-
-no-elements : (xs : List ℕ) → length xs ≡ 0 → xs ≡ []
-no-elements [] h = refl
-no-elements (x ∷ xs) h = absurd (omega arith)
 
 -- the number of a chunk's type is that of its header
 type-for : (h : Header) → typeOf (formatFor h) ≡ format h
@@ -205,7 +201,7 @@ module _ (d : ChunkDeserializer) (c : Chunk) (payload : List ℕ) where
           ≡ then (claiming d (c .id)) (finished d c) (sets payload (got d c) (c .payload)) (n + length (c .payload)) rest
       by-length true t =
           let q = eqb-true (header d c .«message_length») 0 t in
-          let z : c .payload ≡ [] = no-elements (c .payload) (empty q) in
+          let z : c .payload ≡ [] = drop-of-length-le (c .payload) {i = 0} (omega (arith, empty q)) in
           (rw (no-bytes st q)) ∙ finishes held payload n (c .payload ++ rest) ∙ (rw (z, add-zero n))
       by-length false t =
           let q = eqb-false (header d c .«message_length») 0 t in

@@ -21,12 +21,12 @@ use Rattle.byte_machine.specs.declared.reader.Stage.{Stage}
 use Rattle.byte_machine.specs.declared.reader.Stage.the-variants.{Csid as AtCsid, CsidSecond, CsidThird, InitialTimestamp, MessageLength, MessageTypeId, MessageStreamId, ExtendedTimestamp, MessagePayload}
 use Rattle.byte_machine.specs.declared.reader.Stepped.{Stepped}
 use Rattle.byte_machine.specs.Payload.{landed, paid, pays}
-use Rattle.byte_machine.specs.Step.{basic, basicBy, claims, extendedField, gathered, known, lengthField, named, stepped, streamField, swapped, timestampField, typeField}
+use Rattle.byte_machine.specs.Step.{basic, basicBy, claims, extendedField, known, lengthField, named, stepped, streamField, timestampField, typeField}
 use Rattle.byte_machine.specs.Header.{stageOf, extendedNext, lacks, lengthNext, opens, streamNext, timestampNext, typeNext, whole}
-use Rattle.byte_machine.specs.Reader.{at, current, ended, go, headed, inPayload, paused, reader, refuse}
-use Rattle.chunk_meaning.specs.Meaning.{basicRefusal, firstRefusal, firstTime, laterRefusal}
+use Rattle.byte_machine.specs.Reader.{at, current, ended, go, inPayload, paused, reader, refuse}
+use Rattle.chunk_meaning.specs.Meaning.{basicRefusal, firstRefusal, laterRefusal}
 use Rattle.chunk_header.specs.Limits.{maxField}
-use Rattle.chunk_meaning.specs.Stored.{claimed, fielded, lengthed, streamed, timed, typed}
+use Rattle.chunk_meaning.specs.Stored.{claimed}
 use Rattle.byte_machine.specs.Rows.{find, free, putRow, rowAt, putAt}
 use Rattle.deserializer.specs.Call.{stepOf}
 use Rattle.chunk_meaning.proofs.Unrefused.{claims-free}
@@ -140,8 +140,8 @@ module _ (rows : List ℕ) where
       let k = firstRefusal (c .format) (c .header) time room in
       let j = laterRefusal (c .format) (c .before) (c .header) time in
       either rows _ _ (eqb (r .message .id) 0)
-      (either rows _ _ (eqb k 0) (opens-stays size (headed r (timed (c .header) (firstTime (c .format) (c .before .timestamp .value) time))) 0 h) (refuse-stays r k h))
-      (either rows _ _ (eqb j 0) (opens-stays size (headed r (timed (c .header) (c .before .timestamp .value))) (r .message .got) h) (refuse-stays r j h))
+      (either rows _ _ (eqb k 0) (opens-stays size _ 0 h) (refuse-stays r k h))
+      (either rows _ _ (eqb j 0) (opens-stays size _ (r .message .got) h) (refuse-stays r j h))
 
   extended-stays : (room size : ℕ) (r : Reader) → HasRow rows (r .message .id) → StaysAt rows r (extendedNext room size r)
   unfolding extendedNext
@@ -173,19 +173,11 @@ module _ (rows : List ℕ) where
   field-stays AtCsid room size r b p h = never p
   field-stays (CsidSecond a) room size r b p h = never p
   field-stays (CsidThird a c) room size r b p h = never p
-  field-stays (InitialTimestamp before lacks) room size r b p h =
-      let n = gathered before b in
-      either rows _ _ (leb lacks 1) (length-stays room size (headed r (fielded (r .chunk .header) n)) h) (go-stays (at r (InitialTimestamp n (lacks - 1))) h)
-  field-stays (MessageLength before lacks) room size r b p h =
-      let n = gathered before b in
-      either rows _ _ (leb lacks 1) (type-stays room size (headed r (lengthed (r .chunk .header) n)) h) (go-stays (at r (MessageLength n (lacks - 1))) h)
-  field-stays MessageTypeId room size r b p h = stream-stays room size (headed r (typed (r .chunk .header) b)) h
-  field-stays (MessageStreamId before lacks) room size r b p h =
-      let n = gathered before b in
-      either rows _ _ (leb lacks 1) (extended-stays room size (headed r (streamed (r .chunk .header) (swapped n))) h) (go-stays (at r (MessageStreamId n (lacks - 1))) h)
-  field-stays (ExtendedTimestamp before lacks) room size r b p h =
-      let n = gathered before b in
-      either rows _ _ (leb lacks 1) (whole-stays room size r n h) (go-stays (at r (ExtendedTimestamp n (lacks - 1))) h)
+  field-stays (InitialTimestamp before lacks) room size r b p h = either rows _ _ (leb lacks 1) (length-stays room size _ h) (go-stays _ h)
+  field-stays (MessageLength before lacks) room size r b p h = either rows _ _ (leb lacks 1) (type-stays room size _ h) (go-stays _ h)
+  field-stays MessageTypeId room size r b p h = stream-stays room size _ h
+  field-stays (MessageStreamId before lacks) room size r b p h = either rows _ _ (leb lacks 1) (extended-stays room size _ h) (go-stays _ h)
+  field-stays (ExtendedTimestamp before lacks) room size r b p h = either rows _ _ (leb lacks 1) (whole-stays room size r _ h) (go-stays _ h)
   field-stays MessagePayload room size r b p h = refuse-stays r 255 h
 
 -- a basic header that is whole gives an id other than 0

@@ -1,8 +1,10 @@
-pub mod Answer
-pub mod Call
+-- the definition, to be read beside document 01: what a chunk does, what a call and a size told do, and each answer's numbers
 pub mod Chunk
-pub mod Further
-pub mod Head
+pub mod Call
 pub mod Told
+pub mod Answer
+-- what the private functions of the core ensure
 pub mod Turn
+pub mod Head
+pub mod Further
 pub mod Within

@@ -3,9 +3,8 @@ use Prim.Native.Nat.{ℕ, _+_, _-_, _≤_, _<_, max}
 use mathlib.Core.Path.{_≡_, refl, sym, ap, subst, _∙_}
 use mathlib.Core.Bool.{Bool, true, false}
 use mathlib.Core.List.{List, [], _∷_, _++_, map, append-nil}
-use native.Mathlib.Nat.{not-suc-le-zero}
 use native.Mathlib.Omega.{arith}
-use lib.ListN.{length, take, drop}
+use lib.ListN.{length, take, drop, drop-of-length-le}
 use lib.Seq.{sets, sets-eq, length-sets, take-append-seam, drop-at}
 use borrow.Author.Tests.{eq-eqb, ne-eqb, le-ltb}
 use Rattle.serializer.specs.declared.ChunkSerializer.{ChunkSerializer}
@@ -179,10 +178,6 @@ kept-comes (x ∷ xs) r l s d buffer a fit room =
     call-comes (x .call) xs (r .0) (kept-comes xs (r .1) (l .1)) s d buffer a room (x .kept) (l .0) (answers s (x .call)) fit
 
 -- what is to come is handed out by any calls
-no-bytes : (l : List ℕ) → length l ≤ 0 → l ≡ []
-no-bytes [] h = refl
-no-bytes (x ∷ l) h = absurd (not-suc-le-zero h)
-
 hands-out : (ps : List Packet) (r : Receiver) (schedule : List ℕ) → Awaits ps r → r .unread ≡ bytes ps → HandsOut r ps schedule
 hands-out ps r schedule a e =
     let c = comes-by schedule ps r a in
@@ -190,7 +185,7 @@ hands-out ps r schedule a e =
       in-order = record { missing = map note (c .left); joined = c .notes-are };
       all = λ u. all-handed (c .left) (none-left (c .left) (last r schedule) (c .awaits) u) (c .notes-are);
       ends = λ u. over (c .left) (none-left (c .left) (last r schedule) (c .awaits) u) (c .awaits);
-      uses = λ enough. no-bytes (last r schedule .unread) (omega (arith, uses-all schedule ps r a, ap length e, enough));
+      uses = λ enough. drop-of-length-le (last r schedule .unread) {i = 0} (omega (arith, uses-all schedule ps r a, ap length e, enough));
     }
   where
     all-handed : (left : List Packet) → left ≡ [] → log r schedule ++ map note left ≡ map note ps → log r schedule ≡ map note ps
