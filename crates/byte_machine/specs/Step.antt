@@ -4,7 +4,7 @@ use mathlib.Core.Bool.{cond, not}
 use mathlib.Core.List.{List, [], _∷_}
 use lib.Dec.{ltb, leb, eqb}
 use lib.ListN.{getD}
-use Rattle.fields.specs.Endian.{littleEndian, number}
+use Rattle.fields.specs.Endian.{swapped}
 use Rattle.chunk_header.specs.declared.ChunkHeaderFormat.{ChunkHeaderFormat}
 use Rattle.chunk_header.specs.declared.Csid.{Csid}
 use Rattle.chunk_header.specs.declared.Csid.the-variants.{Id, Incomplete}
@@ -67,10 +67,7 @@ lengthField room size r before lacks b =
 unfoldable pub typeField : (room size : ℕ) → Reader → (byte : ℕ) → Stepped
 typeField room size r b = streamNext room size (headed r (typed (r .chunk .header) b))
 
--- the one field that is little-endian: the number of the same four bytes in the other order
-abbrev pub swapped : ℕ → ℕ
-swapped n = number (littleEndian 4 n)
-
+-- the one field that is little-endian
 unfoldable pub streamField : (room size : ℕ) → Reader → (before lacks byte : ℕ) → Stepped
 streamField room size r before lacks b =
     fieldByte before lacks b (λ n. extendedNext room size (headed r (streamed (r .chunk .header) (swapped n)))) (λ n left. at r (MessageStreamId n left))

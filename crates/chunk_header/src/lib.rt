@@ -3,6 +3,7 @@ ghost use mathlib.Core.Path.{_≡_};
 ghost use Rattle.chunk_header.specs.Basic.{csid};
 ghost use Rattle.chunk_header.specs.Header.{nothing};
 ghost use Rattle.chunk_header.specs.Table.{fieldLength, formatOf, headerLength, indexOf, typeOf};
+use fields::wide;
 use time::RtmpTimestamp;
 
 // The four chunk types.
@@ -121,12 +122,6 @@ pub fn get_format(byte: u8) -> ChunkHeaderFormat
         return ChunkHeaderFormat::TimeDeltaOnly;
     }
     ChunkHeaderFormat::Empty
-}
-
-fn wide(byte: u8) -> u32
-    ensures { λ r. ⌜ r ≡ byte ⌝ }
-{
-    byte as u32
 }
 
 // The chunk stream id that the bytes of a basic header say.

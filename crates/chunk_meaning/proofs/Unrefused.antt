@@ -9,6 +9,7 @@ use borrow.Author.Tests.{eqb-true, ltb-false}
 use Rattle.fields.specs.Cases.{_when_, first}
 use Rattle.fields.proofs.Tests.{never}
 use Rattle.chunk_header.specs.declared.ChunkHeaderFormat.{ChunkHeaderFormat}
+use Rattle.chunk_header.specs.declared.ChunkHeaderFormat.the-variants.{Full}
 use Rattle.chunk_header.specs.Limits.{maxField}
 use Rattle.chunk_header.specs.Table.{isEmpty, isFull}
 use Rattle.chunk_meaning.specs.declared.Row.{Row}
@@ -79,6 +80,13 @@ claims-free format unused inside own n h = by-cases (isFull format) (isEmpty for
     by-cases false empty false false own n h = absurd (omega arith)
     by-cases false empty false true false n h = absurd (omega arith)
     by-cases false empty false true true n h = absurd (n refl refl)
+
+-- where nothing is refused, a type 0 without a row of its own finds a free one
+pub has-free : (inside own : Bool) (t : Bool) → basicRefusal Full false t inside own ≡ 0 → t ≡ true
+unfolding basicRefusal
+has-free inside own true h = refl
+has-free true own false h = absurd (let z : 10 ≡ 0 = h in omega arith)
+has-free false own false h = absurd (let z : 10 ≡ 0 = h in omega arith)
 
 -- a first chunk that is not refused fits
 pub first-fits : (format : ChunkHeaderFormat) (header : Row) (number room : ℕ) → firstRefusal format header number room ≡ 0 → header .«message_length» ≤ room

@@ -7,7 +7,7 @@ use native.Mathlib.Omega.{arith}
 use lib.Dec.{eqb}
 use lib.ListN.{length, take, drop, replicate, length-take, length-drop, length-append, length-replicate, take-append-drop}
 use borrow.Author.Tests.{eqb-true, eqb-false}
-use Rattle.fields.specs.Endian.{Bytes, bigEndian, gather, littleEndian, number}
+use Rattle.fields.specs.Endian.{Bytes, bigEndian, littleEndian, number, swapped}
 use Rattle.fields.proofs.Endian.{number-lt}
 use Rattle.fields.proofs.Lists.{bytes-drop, bytes-take, big-take}
 use Rattle.chunk_header.specs.Layout.{Chunk, Form, one, two, three, Header, type0, type1, type2, type3, Extended, absent, present, basicBytes, headerBytes, extendedBytes, chunkBytes, format, FormFits, HeaderFits}
@@ -15,7 +15,7 @@ use Rattle.deserializer.specs.declared.ChunkDeserializer.{ChunkDeseriali
 use Rattle.chunk_meaning.specs.declared.Row.{Row}
 use Rattle.deserializer.specs.Chunk.{ChunkFits, ExtendedFits, carried, header, left, row, rowOf}
 use Rattle.chunk_header.specs.Limits.{maxField}
-use Rattle.deserializer.proofs.Reading.{last-digit, other-digits}
+use Rattle.fields.proofs.Swapped.{last-digit, little-take, other-digits, swapped-small}
 
 -- the first n bytes say a number below 256 ^ n, and the others follow
 pub record Reads (n : ℕ) (bs : List ℕ) : Type 0 where
@@ -38,25 +38,6 @@ reads n bs h k =
       long = simp length-drop (omega arith);
     }
 
--- four bytes, as the little-endian bytes of a number of 32 bits
-pub written : (a b c e : ℕ) → a < 256 → b < 256 → c < 256 → e < 256 → littleEndian 4 (gather 0 (e ∷ c ∷ b ∷ a ∷ [])) ≡ a ∷ b ∷ c ∷ e ∷ []
-unfolding littleEndian gather
-written a b c e ha hb hc he =
-    rw (
-      last-digit (((0 * 256 + e) * 256 + c) * 256 + b) a ha,
-      other-digits (((0 * 256 + e) * 256 + c) * 256 + b) a ha,
-      last-digit ((0 * 256 + e) * 256 + c) b hb,
-      other-digits ((0 * 256 + e) * 256 + c) b hb,
-      last-digit (0 * 256 + e) c hc,
-      other-digits (0 * 256 + e) c hc,
-      last-digit 0 e he,
-    )
-
--- four bytes of any kind
-four : (a b c e : ℕ) → a < 256 → b < 256 → c < 256 → e < 256 → gather 0 (e ∷ c ∷ b ∷ a ∷ []) < 2 ^ 32
-unfolding gather
-four a b c e ha hb hc he = omega arith
-
 -- the little-endian number of four bytes
 pub record ReadsLittle (bs : List ℕ) : Type 0 where
   pub value : ℕ
@@ -67,17 +48,13 @@ pub record ReadsLittle (bs : List ℕ) : Type 0 where
   pub long : length bs ≡ 4 + length rest
 
 reads-little : (bs : List ℕ) → Bytes bs → 4 ≤ length bs → ReadsLittle bs
-reads-little [] h k = absurd (omega arith)
-reads-little (a ∷ []) h k = absurd (omega arith)
-reads-little (a ∷ b ∷ []) h k = absurd (omega arith)
-reads-little (a ∷ b ∷ c ∷ []) h k = absurd (omega arith)
-reads-little (a ∷ b ∷ c ∷ e ∷ bs) h k = record {
-  value = gather 0 (e ∷ c ∷ b ∷ a ∷ []);
-  rest = bs;
-  small = four a b c e (h 0) (h 1) (h 2) (h 3);
-  is = sym (ap (λ (l : List ℕ). l ++ bs) (written a b c e (h 0) (h 1) (h 2) (h 3)));
-  bytes = λ i. h (suc (suc (suc (suc i))));
-  long = omega arith;
+reads-little bs h k = record {
+  value = swapped (number (take 4 bs));
+  rest = drop 4 bs;
+  small = swapped-small (number (take 4 bs));
+  is = sym ((rw (little-take bs h k)) ∙ take-append-drop 4 bs);
+  bytes = bytes-drop 4 bs h;
+  long = simp length-drop (omega arith);
 }
 
 -- the header of a type, from any bytes

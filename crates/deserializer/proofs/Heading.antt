@@ -3,14 +3,14 @@ use Prim.Native.Nat.{ℕ, _+_, _-_, _*_, _%_, _^_, _≤_, _<_}
 use mathlib.Core.Path.{_≡_, refl, sym, ap, _∙_}
 use mathlib.Core.Logic.{_≢_}
 use mathlib.Core.Bool.{Bool, true, false, cond, not}
-use mathlib.Core.List.{List, [], _∷_, _++_, append-assoc}
+use mathlib.Core.List.{List, [], _++_, append-assoc}
 use native.Mathlib.Omega.{arith}
 use lib.Dec.{eqb, ltb}
 use lib.ListN.{length, take, drop, getD, length-drop, length-take, take-append-drop}
 use lib.Seq.{drop-cons, drop-drop, take-all}
 use borrow.Author.Tests.{lt-ltb}
-use Rattle.fields.specs.Endian.{Bytes, bigEndian, gather, littleEndian, number}
-use Rattle.fields.proofs.Endian.{bytes-little, length-little, number-lt}
+use Rattle.fields.specs.Endian.{Bytes, bigEndian, gather, littleEndian, number, swapped}
+use Rattle.fields.proofs.Endian.{number-lt}
 use Rattle.fields.proofs.Lists.{big-take, bytes-drop, bytes-take}
 use Rattle.chunk_header.specs.declared.ChunkHeaderFormat.{ChunkHeaderFormat}
 use Rattle.chunk_header.specs.declared.ChunkHeaderFormat.the-variants.{Full, TimeDeltaWithoutMessageStreamId, TimeDeltaOnly, Empty}
@@ -26,15 +26,14 @@ use Rattle.chunk_meaning.specs.declared.Row.{Row}
 use Rattle.deserializer.specs.Call.{run}
 use Rattle.deserializer.specs.Chunk.{HeadFits, basicRefused, carried, formatFor, got, header, headerRefused, row}
 use Rattle.deserializer.specs.Head.{Heads, Known, headerIn, refusalOf, settledBy}
-use Rattle.byte_machine.specs.Step.{stepped, swapped}
+use Rattle.byte_machine.specs.Step.{stepped}
 use Rattle.byte_machine.specs.Header.{opens}
 use Rattle.byte_machine.specs.Reader.{inPayload, atStart}
 use Rattle.chunk_meaning.specs.Meaning.{basicRefusal, firstRefusal, laterRefusal}
 use Rattle.chunk_header.specs.Limits.{maxField}
 use Rattle.byte_machine.specs.Rows.{find, free, rowAt}
 use Rattle.deserializer.specs.Turn.{whole}
-use Rattle.deserializer.proofs.Covers.{written}
-use Rattle.deserializer.proofs.Reading.{turned}
+use Rattle.fields.proofs.Swapped.{little-take, swapped-small}
 use Rattle.deserializer.proofs.ReadsBack.{basicOf, claiming, headOf, opened, settled}
 use Rattle.byte_machine.proofs.RowLaws.{find-tells}
 use Rattle.deserializer.proofs.Runs.{run-header, then}
@@ -44,17 +43,6 @@ use Rattle.fields.proofs.Tests.{clash, never}
 pub one-number : (bs : List ℕ) (i : ℕ) → i < length bs → number (take 1 (drop i bs)) ≡ getD bs i 0
 unfolding gather
 one-number bs i h = rw (drop-cons bs i 0 h) (omega arith)
-
--- four bytes, as the little-endian bytes of their swapped number
-little-take : (bs : List ℕ) → Bytes bs → 4 ≤ length bs → littleEndian 4 (swapped (number (take 4 bs))) ≡ take 4 bs
-little-take [] h k = absurd (omega arith)
-little-take (a ∷ []) h k = absurd (omega arith)
-little-take (a ∷ b ∷ []) h k = absurd (omega arith)
-little-take (a ∷ b ∷ c ∷ []) h k = absurd (omega arith)
-little-take (a ∷ b ∷ c ∷ e ∷ bs) h k = (rw (turned a b c e (h 0) (h 1) (h 2) (h 3))) ∙ written a b c e (h 0) (h 1) (h 2) (h 3)
-
-swapped-small : (n : ℕ) → swapped n < 2 ^ 32
-swapped-small n = rw (length-little 4 n) at (number-lt (littleEndian 4 n) (bytes-little 4 n))
 
 -- the bytes after the first, as the header's and the rest
 module _ (bs : List ℕ) (h : Bytes bs) where

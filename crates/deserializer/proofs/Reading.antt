@@ -1,13 +1,13 @@
 -- The bytes of a header are read back: its fields one after the other, each from where the one before it ended.
-use Prim.Native.Nat.{ℕ, _+_, _*_, _%_, _/_, _^_, _<_}
+use Prim.Native.Nat.{ℕ, _+_, _%_, _/_, _^_, _<_}
 use mathlib.Core.Path.{_≡_, refl, _∙_}
-use mathlib.Core.List.{List, [], _∷_, _++_, append-assoc}
+use mathlib.Core.List.{List, _++_, append-assoc}
 use native.Mathlib.Nat.{add-zero}
 use native.Mathlib.Omega.{arith}
 use lib.Dec.{lit<}
 use lib.ListN.{length, length-append}
 use borrow.Author.Tests.{eq-eqb, ne-eqb}
-use Rattle.fields.specs.Endian.{bigEndian, littleEndian, gather}
+use Rattle.fields.specs.Endian.{bigEndian, littleEndian, swapped}
 use Rattle.fields.proofs.Endian.{bytes-big, bytes-little, length-big, length-little, number-big}
 use Rattle.chunk_header.specs.Layout.{Header, type0, type1, type2, type3, headerBytes, Extended, absent, present, extendedBytes, HeaderFits}
 use Rattle.chunk_header.specs.Table.{fieldLength}
@@ -20,11 +20,12 @@ use Rattle.byte_machine.specs.declared.reader.Unfinished.{Unfinished}
 use Rattle.chunk_meaning.specs.declared.Row.{Row}
 use Rattle.deserializer.specs.Call.{Outcome, after, run}
 use Rattle.deserializer.specs.Chunk.{ExtendedFits, carried, formatFor, says}
-use Rattle.byte_machine.specs.Step.{extendedField, lengthField, streamField, swapped, timestampField, typeField}
+use Rattle.byte_machine.specs.Step.{extendedField, lengthField, streamField, timestampField, typeField}
 use Rattle.byte_machine.specs.Header.{extendedNext, lengthNext, streamNext, timestampNext, typeNext, whole}
 use Rattle.byte_machine.specs.Reader.{at, current, headed, reader}
 use Rattle.chunk_meaning.specs.Stored.{fielded, lengthed, streamed, typed}
 use Rattle.chunk_header.specs.Limits.{maxField}
+use Rattle.fields.proofs.Swapped.{swapped-back}
 use Rattle.deserializer.proofs.Fields.{Reaches, field}
 use Rattle.deserializer.proofs.Runs.{holding, run-header, then}
 
@@ -32,43 +33,6 @@ use Rattle.deserializer.proofs.Runs.{holding, run-header, then}
 of-number : {o : Outcome} {d : ChunkDeserializer} {r : Reader} {payload rest : List ℕ} {n x y : ℕ} (f : ℕ → Reader → Stepped) → x ≡ y
     → Reaches o d (f x) r payload n rest → Reaches o d (f y) r payload n rest
 of-number f e h = rw e at h
-
--- the last digit of a number, and those before it
-pub last-digit : (z e : ℕ) → e < 256 → (z * 256 + e) % 256 ≡ e
-last-digit z e h = omega arith
-
-pub other-digits : (z e : ℕ) → e < 256 → (z * 256 + e) / 256 ≡ z
-other-digits z e h = omega arith
-
--- four bytes in the other order
-pub turned : (a b c e : ℕ) → a < 256 → b < 256 → c < 256 → e < 256 → swapped (gather 0 (a ∷ b ∷ c ∷ e ∷ [])) ≡ gather 0 (e ∷ c ∷ b ∷ a ∷ [])
-unfolding littleEndian gather
-turned a b c e ha hb hc he =
-    rw (
-      last-digit (((0 * 256 + a) * 256 + b) * 256 + c) e he,
-      other-digits (((0 * 256 + a) * 256 + b) * 256 + c) e he,
-      last-digit ((0 * 256 + a) * 256 + b) c hc,
-      other-digits ((0 * 256 + a) * 256 + b) c hc,
-      last-digit (0 * 256 + a) b hb,
-      other-digits (0 * 256 + a) b hb,
-      last-digit 0 a ha,
-    )
-
-pub digits : (v : ℕ) → v < 2 ^ 32 → gather 0 (v / 256 / 256 / 256 % 256 ∷ v / 256 / 256 % 256 ∷ v / 256 % 256 ∷ v % 256 ∷ []) ≡ v
-unfolding gather
-digits v h =
-    let p : v / 256 * 256 + v % 256 ≡ v = omega arith in
-    let q : v / 256 / 256 * 256 + v / 256 % 256 ≡ v / 256 = omega arith in
-    let s : v / 256 / 256 / 256 * 256 + v / 256 / 256 % 256 ≡ v / 256 / 256 = omega arith in
-    let t : 0 * 256 + v / 256 / 256 / 256 % 256 ≡ v / 256 / 256 / 256 = omega arith in
-    rw (t, s, q, p)
-
--- a number of four bytes, in the other order and back
-swapped-back : (v : ℕ) → v < 2 ^ 32 → swapped (gather 0 (littleEndian 4 v)) ≡ v
-unfolding littleEndian
-swapped-back v h =
-    turned (v % 256) (v / 256 % 256) (v / 256 / 256 % 256) (v / 256 / 256 / 256 % 256) (omega arith) (omega arith) (omega arith) (omega arith)
-    ∙ digits v h
 
 module _ (d : ChunkDeserializer) (payload : List ℕ) where
   -- the time field, the length, the type, the stream id and the extended time

@@ -25,9 +25,10 @@ use Rattle.byte_machine.specs.Payload.{landed}
 use Rattle.byte_machine.specs.Step.{named}
 use Rattle.byte_machine.specs.Header.{opens, timestampNext, whole}
 use Rattle.byte_machine.specs.Reader.{at, current, ended, go, reader, refuse, unfinished}
-use Rattle.chunk_meaning.specs.Meaning.{basicRefusal, firstRefusal, laterRefusal}
+use Rattle.chunk_meaning.specs.Meaning.{firstRefusal, laterRefusal}
 use Rattle.chunk_meaning.specs.Stored.{claimed}
 use Rattle.byte_machine.specs.Rows.{find, free, putRow}
+use Rattle.chunk_meaning.proofs.Unrefused.{has-free}
 use Rattle.deserializer.proofs.Fields.{Reaches}
 use Rattle.deserializer.proofs.Identifying.{basic-read}
 use Rattle.byte_machine.proofs.Naming.{named-refused}
@@ -65,13 +66,6 @@ type-for type3 = refl
 put-between : (d : ChunkDeserializer) → d .reader .stage ≡ Csid → holding d (at (d .reader) Csid) ≡ d
 unfolding after
 put-between d s = rw (← s)
-
--- where nothing is refused, a type 0 without a row of its own finds a free one
-has-free : (inside own : Bool) (t : Bool) → basicRefusal Full false t inside own ≡ 0 → t ≡ true
-unfolding basicRefusal
-has-free inside own true h = refl
-has-free true own false h = absurd (let z : 10 ≡ 0 = h in omega arith)
-has-free false own false h = absurd (let z : 10 ≡ 0 = h in omega arith)
 
 module _ (d : ChunkDeserializer) (c : Chunk) where
   -- what the last byte of the chunk does: the chunk ends before its message does, or with it, and its row is stored

@@ -5,7 +5,7 @@ use mathlib.Core.List.{List}
 use mathlib.Core.Path.{_≡_}
 use lib.Dec.{eqb}
 use lib.ListN.{length, take, drop, getD}
-use Rattle.fields.specs.Endian.{Bytes, number}
+use Rattle.fields.specs.Endian.{Bytes, number, swapped}
 use Rattle.chunk_header.specs.declared.ChunkHeaderFormat.{ChunkHeaderFormat}
 use Rattle.chunk_header.specs.declared.ChunkHeaderFormat.the-variants.{Full, TimeDeltaWithoutMessageStreamId, TimeDeltaOnly, Empty}
 use Rattle.chunk_header.specs.Layout.{Header, type0, type1, type2, type3}
@@ -19,7 +19,6 @@ use Rattle.byte_machine.specs.declared.reader.Stepped.{Stepped}
 use Rattle.byte_machine.specs.declared.reader.Unfinished.{Unfinished}
 use Rattle.chunk_meaning.specs.declared.Row.{Row}
 use Rattle.deserializer.specs.Call.{after, run}
-use Rattle.byte_machine.specs.Step.{swapped}
 use Rattle.byte_machine.specs.Header.{opens}
 use Rattle.byte_machine.specs.Reader.{reading}
 use Rattle.chunk_meaning.specs.Meaning.{firstRefusal, firstTime, laterRefusal}

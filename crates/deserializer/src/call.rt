@@ -23,6 +23,7 @@ use byte_machine::refuse;
 use byte_machine::step;
 use byte_machine::wide;
 use chunk_meaning::Row;
+use fields::least;
 use fields::put_bytes;
 use time::RtmpTimestamp;
 
@@ -113,12 +114,6 @@ fn keep(core: Core, rows: &mut [u32; 384], stepped: Stepped, at: usize) -> Moved
         event: event,
         at: at,
     }
-}
-
-fn least(a: usize, b: usize) -> usize
-    ensures { λ r. ⌜ r ≡ min a b ⌝ }
-{
-    if a < b { a } else { b }
 }
 
 // Takes as many bytes of a payload as there are.

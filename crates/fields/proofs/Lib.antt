@@ -1,5 +1,6 @@
 pub mod Deciding
 pub mod Endian
 pub mod Lists
+pub mod Swapped
 pub mod Table
 pub mod Tests

@@ -21,6 +21,10 @@ gather before (b ∷ bs) = gather (before * 256 + b) bs
 abbrev pub number : List ℕ → ℕ
 number bs = gather 0 bs
 
+-- the number of the same four bytes in the other order
+abbrev pub swapped : (n : ℕ) → ℕ
+swapped n = number (littleEndian 4 n)
+
 -- every element is a byte
 abbrev pub Bytes : List ℕ → Type 0
 Bytes bs = (i : ℕ) → getD bs i 0 < 256

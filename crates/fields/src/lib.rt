@@ -1,14 +1,22 @@
 // Bytes in lent slices: numbers, and runs of bytes, put at a place and read from a place.
 ghost use mathlib.Core.Path.{_≡_};
-ghost use Prim.Native.Nat.{_%_, _^_};
+ghost use Prim.Native.Nat.{_%_, _^_, min};
 ghost use lib.ListN.{length, take, drop};
-ghost use Rattle.fields.specs.Endian.{bigEndian, littleEndian, number};
+ghost use Rattle.fields.specs.Endian.{bigEndian, number, swapped};
 ghost use Rattle.fields.specs.Output.{stored};
 
-fn wide(byte: u8) -> u32
+// A byte as a number of 32 bits.
+pub fn wide(byte: u8) -> u32
     ensures { λ r. ⌜ r ≡ byte ⌝ }
 {
     byte as u32
+}
+
+// The smaller of two lengths.
+pub fn least(a: usize, b: usize) -> usize
+    ensures { λ r. ⌜ r ≡ min a b ⌝ }
+{
+    if a < b { a } else { b }
 }
 
 // The number that the bytes mean; of more than four, its last 32 bits.
@@ -65,7 +73,7 @@ pub fn put_number(value: u32, width: usize, output: &mut [u8], at: usize)
 
 // The number of the same four bytes in the other order.
 pub fn swap_bytes(value: u32) -> u32
-    ensures { λ r. ⌜ r ≡ number (littleEndian 4 value) ⌝ }
+    ensures { λ r. ⌜ r ≡ swapped value ⌝ }
 {
     value % 256 * 16777216
         + value / 256 % 256 * 65536

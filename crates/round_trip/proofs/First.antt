@@ -14,7 +14,7 @@ use Rattle.chunk_header.specs.declared.ChunkHeaderFormat.{ChunkHeaderFormat}
 use Rattle.chunk_header.specs.declared.ChunkHeaderFormat.the-variants.{Full, TimeDeltaWithoutMessageStreamId, TimeDeltaOnly, Empty}
 use Rattle.chunk_header.specs.Layout.{Chunk}
 use Rattle.serializer.specs.declared.format.Message.{Message}
-use Rattle.serializer.specs.Header.{delta, format, timeField}
+use Rattle.serializer.specs.Header.{delta, format, headerBy}
 use Rattle.serializer.specs.Message.{chunkStream}
 use Rattle.serializer.specs.Packet.{chunk, extended}
 use Rattle.chunk_header.specs.Limits.{maxField}
@@ -28,19 +28,7 @@ use Rattle.byte_machine.specs.Rows.{find, free}
 use Rattle.round_trip.proofs.Held.{Held, Spare, free-some}
 use Rattle.round_trip.proofs.Wire.{Fits, Taken, extended-fits, fields-fit, row-held, row-id, rowFor, says-field}
 
--- what is remembered after a first chunk of that format
-abbrev pub headerBy : ChunkHeaderFormat → Message → ChunkHeader → ChunkHeader
-headerBy f m previous = record {
-  «chunk_stream_id» = chunkStream (m .«type_id»);
-  timestamp = m .timestamp;
-  «timestamp_field» = timeField f (m .timestamp .value) (delta m previous);
-  «message_length» = m .length;
-  «message_type_id» = m .«type_id»;
-  «message_stream_id» = m .«stream_id»;
-  «can_be_dropped» = m .«can_be_dropped»;
-}
-
--- so 13 is not given, nor 14 where the length is at most the room
+-- by a field that is on the wire 13 is not given, nor 14 where the length is at most the room
 first-taken : (f : ChunkHeaderFormat) (r : Row) (field room : ℕ) → r .«timestamp_field» ≡ min field maxField → r .«message_length» ≤ room
     → firstRefusal f r field room ≡ 0
 unfolding firstRefusal

@@ -11,7 +11,7 @@ use Rattle.chunk_header.specs.declared.ChunkHeader.{ChunkHeader}
 use Rattle.chunk_header.specs.declared.ChunkHeaderFormat.{ChunkHeaderFormat}
 use Rattle.chunk_header.specs.Layout.{Chunk}
 use Rattle.serializer.specs.declared.format.Message.{Message}
-use Rattle.serializer.specs.Header.{format, header}
+use Rattle.serializer.specs.Header.{format, header, headerBy}
 use Rattle.serializer.specs.Message.{chunkStream}
 use Rattle.serializer.specs.Packet.{chunk, laterFormat, packet}
 use Rattle.serializer.proofs.Later.{later}
@@ -21,7 +21,7 @@ use Rattle.byte_machine.specs.declared.reader.Stage.the-variants.{Csid}
 use Rattle.deserializer.specs.Call.{run}
 use Rattle.deserializer.specs.Chunk.{got}
 use Rattle.deserializer.proofs.Reached.{Reached}
-use Rattle.round_trip.proofs.First.{Goes-on, chosen, first-chunk, headerBy}
+use Rattle.round_trip.proofs.First.{Goes-on, chosen, first-chunk}
 use Rattle.round_trip.proofs.Held.{Held, Spare}
 use Rattle.round_trip.proofs.Reading.{Reads, chunk-then, later-reads}
 use Rattle.round_trip.proofs.Taking.{At}

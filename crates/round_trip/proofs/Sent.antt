@@ -16,14 +16,13 @@ use Rattle.chunk_header.specs.declared.ChunkHeaderFormat.the-variants.{Full, Ti
 use Rattle.serializer.specs.declared.ChunkSerializer.{ChunkSerializer}
 use Rattle.serializer.specs.declared.format.Message.{Message as Parameters}
 use Rattle.serializer.specs.Answer.{wrote, refused}
-use Rattle.serializer.specs.Header.{delta}
+use Rattle.serializer.specs.Header.{delta, headerBy}
 use Rattle.serializer.specs.Message.{message as to-encode}
 use Rattle.serializer.specs.Remembered.{packetOf, remember}
 use Rattle.serializer.specs.Serialize.{Outcome, accept, refuse, sent, serialized, sizeChanged, sizeMessage}
 use Rattle.chunk_header.specs.Limits.{maxLength, maxSize}
 use Rattle.serializer.proofs.Stream.{stream-range}
 use Rattle.round_trip.specs.Demand3.{Call, Ranged, encodes, resize, send}
-use Rattle.round_trip.proofs.First.{headerBy}
 use Rattle.round_trip.proofs.Wire.{Fits}
 
 -- the message that a call encodes, its payload, and the chunk size that holds afterwards
@@ -57,11 +56,21 @@ pub data Answers (s : ChunkSerializer) (c : Call) (o : Outcome) : Type 0 where
   refuses : (number : ℕ) → o .answer ≡ refused number → o .serializer ≡ s → Answers s c o
   accepts : Accepted s c o → Answers s c o
 
+-- a packet that is sent is refused with 5, or written
+sent-by : (P : Outcome → Type 0) (s : ChunkSerializer) (m : Parameters) (payload : List ℕ) (size : ℕ) (output : List ℕ) → P (refuse s output 5)
+    → P (accept s m payload size output)
+    → P (sent s m payload size output)
+unfolding sent
+sent-by P s m payload size output p q = by-test (ltb (length output) (length (packetOf s m payload)))
+  where
+    by-test : (t : Bool) → P (cond t (refuse s output 5) (accept s m payload size output))
+    by-test true = p
+    by-test false = q
+
 answers-send : (s : ChunkSerializer) (type stream time : ℕ) (payload : List ℕ) (forced droppable : Bool) (output : List ℕ)
     → Answers s (send type stream time payload forced droppable output) (encodes s (send type stream time payload forced droppable output))
-unfolding serialized sent
-answers-send s type stream time payload forced droppable output =
-    by-tests (eqb (length payload) 0) (ltb maxLength (length payload)) (ltb (length output) (length (packetOf s m payload))) refl refl
+unfolding serialized
+answers-send s type stream time payload forced droppable output = by-tests (eqb (length payload) 0) (ltb maxLength (length payload)) refl refl
   where
     m : Parameters
     m = to-encode type stream time (length payload) forced droppable
@@ -69,42 +78,40 @@ answers-send s type stream time payload forced droppable output =
     c : Call
     c = send type stream time payload forced droppable output
 
-    by-tests : (a b e : Bool) → eqb (length payload) 0 ≡ a → ltb maxLength (length payload) ≡ b
-        → Answers s c
-        (cond a (refuse s output 1) (cond b (refuse s output 2) (cond e (refuse s output 5) (accept s m payload (s .«max_chunk_size») output))))
-    by-tests true b e p q = refuses 1 refl refl
-    by-tests false true e p q = refuses 2 refl refl
-    by-tests false false true p q = refuses 5 refl refl
-    by-tests false false false p q =
-        accepts record {
+    by-tests : (a b : Bool) → eqb (length payload) 0 ≡ a → ltb maxLength (length payload) ≡ b
+        → Answers s c (cond a (refuse s output 1) (cond b (refuse s output 2) (sent s m payload (s .«max_chunk_size») output)))
+    by-tests true b p q = refuses 1 refl refl
+    by-tests false true p q = refuses 2 refl refl
+    by-tests false false p q =
+        sent-by (Answers s c) s m payload (s .«max_chunk_size») output (refuses 5 refl refl)
+        (accepts record {
           answer = refl;
           output = take-append-seam (packetOf s m payload) _;
           serializer = refl;
           some = let n = eqb-false (length payload) 0 p in omega arith;
           most = ltb-false maxLength (length payload) q;
           size = tt;
-        }
+        })
 
 answers-resize : (s : ChunkSerializer) (size time : ℕ) (output : List ℕ) → Answers s (resize size time output) (encodes s (resize size time output))
-unfolding sizeChanged sent
-answers-resize s size time output =
-    by-tests (eqb size 0) (ltb maxSize size) (ltb (length output) (length (packetOf s (sizeMessage time) (bigEndian 4 size)))) refl refl
+unfolding sizeChanged
+answers-resize s size time output = by-tests (eqb size 0) (ltb maxSize size) refl refl
   where
-    by-tests : (a b e : Bool) → eqb size 0 ≡ a → ltb maxSize size ≡ b
+    by-tests : (a b : Bool) → eqb size 0 ≡ a → ltb maxSize size ≡ b
         → Answers s (resize size time output)
-        (cond a (refuse s output 3) (cond b (refuse s output 4) (cond e (refuse s output 5) (accept s (sizeMessage time) (bigEndian 4 size) size output))))
-    by-tests true b e p q = refuses 3 refl refl
-    by-tests false true e p q = refuses 4 refl refl
-    by-tests false false true p q = refuses 5 refl refl
-    by-tests false false false p q =
-        accepts record {
+        (cond a (refuse s output 3) (cond b (refuse s output 4) (sent s (sizeMessage time) (bigEndian 4 size) size output)))
+    by-tests true b p q = refuses 3 refl refl
+    by-tests false true p q = refuses 4 refl refl
+    by-tests false false p q =
+        sent-by (Answers s (resize size time output)) s (sizeMessage time) (bigEndian 4 size) size output (refuses 5 refl refl)
+        (accepts record {
           answer = refl;
           output = take-append-seam (packetOf s (sizeMessage time) (bigEndian 4 size)) _;
           serializer = refl;
           some = rw (length-big 4 size) (omega arith);
           most = rw (length-big 4 size) (omega arith);
           size = (let n = eqb-false size 0 p in omega arith, ltb-false maxSize size q);
-        }
+        })
 
 pub answers : (s : ChunkSerializer) (c : Call) → Answers s c (encodes s c)
 answers s (send type stream time payload forced droppable output) = answers-send s type stream time payload forced droppable output

@@ -34,17 +34,21 @@ format m previous =
 abbrev pub timeField : ChunkHeaderFormat → (time delta : ℕ) → ℕ
 timeField format time delta = cond (isFull format) time delta
 
--- what is remembered
-abbrev pub header : Message → (previous : ChunkHeader) → ChunkHeader
-header m previous = record {
+-- what is remembered after a first chunk of that format ..
+abbrev pub headerBy : ChunkHeaderFormat → Message → (previous : ChunkHeader) → ChunkHeader
+headerBy f m previous = record {
   «chunk_stream_id» = chunkStream (m .«type_id»);
   timestamp = m .timestamp;
-  «timestamp_field» = timeField (format m previous) (m .timestamp .value) (delta m previous);
+  «timestamp_field» = timeField f (m .timestamp .value) (delta m previous);
   «message_length» = m .length;
   «message_type_id» = m .«type_id»;
   «message_stream_id» = m .«stream_id»;
   «can_be_dropped» = m .«can_be_dropped»;
 }
+
+-- .. and after the one that is chosen
+abbrev pub header : Message → (previous : ChunkHeader) → ChunkHeader
+header m previous = headerBy (format m previous) m previous
 
 abbrev pub firstChunk : Message → (previous : ChunkHeader) → FirstChunk
 firstChunk m previous = record { format = format m previous; header = header m previous }

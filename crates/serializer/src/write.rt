@@ -13,15 +13,10 @@ use chunk_header::ChunkHeader;
 use chunk_header::ChunkHeaderFormat;
 use chunk_header::MAX_INITIAL_TIMESTAMP;
 use chunk_header::chunk_type;
+use fields::least;
 use fields::put_bytes;
 use fields::put_number;
 use fields::swap_bytes;
-
-fn least(a: usize, b: usize) -> usize
-    ensures { λ r. ⌜ r ≡ min a b ⌝ }
-{
-    if a < b { a } else { b }
-}
 
 // The 24-bit field of a time.
 fn initial_timestamp(timestamp_field: u32) -> u32

@@ -1,5 +1,5 @@
 -- A number of four bytes needs no wrapping.
-use Rattle.byte_machine.specs.Step.{swapped}
+use Rattle.fields.specs.Endian.{swapped}
 use Rattle.fields.proofs.Lists.{part-fits}
 use native.Mathlib.Omega.{arith}
 use mathlib.Core.Path.{ap, _∙_}
