@@ -15,6 +15,10 @@ pub tested : (P : Stepped → Type 0) (t : Bool) {a b : Stepped} → (t ≡ true
 tested P true p q = p refl
 tested P false p q = q refl
 
+-- of two ways, either
+pub either : (P : Stepped → Type 0) (t : Bool) {a b : Stepped} → P a → P b → P (cond t a b)
+either P t p q = tested P t (λ e. p) (λ e. q)
+
 module _ (P : Stepped → Type 0) (room size : ℕ) (r : Reader)
     (stops : (field : HeaderField) → eqb (lacks r field) 0 ≡ false → P (go (at r (stageOf field (lacks r field)))))
     (past : P (extendedNext room size r)) where

@@ -31,7 +31,7 @@ use Rattle.byte_machine.specs.Rows.{find, free, putRow, rowAt, putAt}
 use Rattle.deserializer.specs.Call.{stepOf}
 use Rattle.chunk_meaning.proofs.Unrefused.{claims-free}
 use Rattle.fields.proofs.Tests.{clash, never}
-use Rattle.byte_machine.proofs.Passing.{at-stream, at-type, at-length, at-timestamp}
+use Rattle.byte_machine.proofs.Passing.{at-stream, at-type, at-length, at-timestamp, either}
 use Rattle.byte_machine.proofs.RowLaws.{Distinct, alone-none, alone-there, distinct-put, find-tells, found, id-put, length-putRow, put-found}
 
 -- the basic header is whole: a field of the header comes, or payload
@@ -98,11 +98,6 @@ stays-sound rows place id s l d o k = by-cases (ltb (s .place) 64) refl
       owns = λ z. record { inside = rw (k .same-place) (o .inside); own = rw (k .same-place, k .same-id) (o .own); used = rw (k .same-id) (o .used) };
     }
 
--- of two answers that stay, either
-either : (rows : List ℕ) (place id : ℕ) (t : Bool) {a b : Stepped} → Stays rows place id a → Stays rows place id b → Stays rows place id (cond t a b)
-either rows place id true p q = p
-either rows place id false p q = q
-
 -- the steps of a header whose basic header is whole, and of a payload, stay at their chunk's row
 abbrev StaysAt : List ℕ → Reader → Stepped → Type 0
 StaysAt rows r s = Stays rows (r .chunk .place) (r .chunk .header .id) s
@@ -125,13 +120,13 @@ module _ (rows : List ℕ) where
   landed-stays r n h o =
       let got = r .message .got + n in
       let r′ = paid r got (r .chunk .left - n) in
-      either rows _ _ (eqb (r .chunk .left - n) 0)
-      (either rows _ _ (ltb got (r .chunk .header .«message_length»)) (paused-stays r′ got o) (ended-stays r′))
+      either (StaysAt rows r) (eqb (r .chunk .left - n) 0)
+      (either (StaysAt rows r) (ltb got (r .chunk .header .«message_length»)) (paused-stays r′ got o) (ended-stays r′))
       (go-stays r′ h)
 
   opens-stays : (size : ℕ) (r : Reader) (got : ℕ) → HasRow rows (r .message .id) → StaysAt rows r (opens size r got)
   unfolding opens
-  opens-stays size r got h = either rows _ _ (eqb (r .chunk .header .«message_length») 0) (ended-stays r) (go-stays _ h)
+  opens-stays size r got h = either (StaysAt rows r) (eqb (r .chunk .header .«message_length») 0) (ended-stays r) (go-stays _ h)
 
   whole-stays : (room size : ℕ) (r : Reader) (time : ℕ) → HasRow rows (r .message .id) → StaysAt rows r (whole room size r time)
   unfolding whole
@@ -139,14 +134,14 @@ module _ (rows : List ℕ) where
       let c = r .chunk in
       let k = firstRefusal (c .format) (c .header) time room in
       let j = laterRefusal (c .format) (c .before) (c .header) time in
-      either rows _ _ (eqb (r .message .id) 0)
-      (either rows _ _ (eqb k 0) (opens-stays size _ 0 h) (refuse-stays r k h))
-      (either rows _ _ (eqb j 0) (opens-stays size _ (r .message .got) h) (refuse-stays r j h))
+      either (StaysAt rows r) (eqb (r .message .id) 0)
+      (either (StaysAt rows r) (eqb k 0) (opens-stays size _ 0 h) (refuse-stays r k h))
+      (either (StaysAt rows r) (eqb j 0) (opens-stays size _ (r .message .got) h) (refuse-stays r j h))
 
   extended-stays : (room size : ℕ) (r : Reader) → HasRow rows (r .message .id) → StaysAt rows r (extendedNext room size r)
   unfolding extendedNext
   extended-stays room size r h =
-      either rows _ _ (eqb (r .chunk .header .«timestamp_field») maxField) (go-stays (at r (ExtendedTimestamp 0 4)) h)
+      either (StaysAt rows r) (eqb (r .chunk .header .«timestamp_field») maxField) (go-stays (at r (ExtendedTimestamp 0 4)) h)
       (whole-stays room size r (r .chunk .header .«timestamp_field») h)
 
   -- the next field
@@ -173,11 +168,11 @@ module _ (rows : List ℕ) where
   field-stays AtCsid room size r b p h = never p
   field-stays (CsidSecond a) room size r b p h = never p
   field-stays (CsidThird a c) room size r b p h = never p
-  field-stays (InitialTimestamp before lacks) room size r b p h = either rows _ _ (leb lacks 1) (length-stays room size _ h) (go-stays _ h)
-  field-stays (MessageLength before lacks) room size r b p h = either rows _ _ (leb lacks 1) (type-stays room size _ h) (go-stays _ h)
+  field-stays (InitialTimestamp before lacks) room size r b p h = either (StaysAt rows r) (leb lacks 1) (length-stays room size _ h) (go-stays _ h)
+  field-stays (MessageLength before lacks) room size r b p h = either (StaysAt rows r) (leb lacks 1) (type-stays room size _ h) (go-stays _ h)
   field-stays MessageTypeId room size r b p h = stream-stays room size _ h
-  field-stays (MessageStreamId before lacks) room size r b p h = either rows _ _ (leb lacks 1) (extended-stays room size _ h) (go-stays _ h)
-  field-stays (ExtendedTimestamp before lacks) room size r b p h = either rows _ _ (leb lacks 1) (whole-stays room size r _ h) (go-stays _ h)
+  field-stays (MessageStreamId before lacks) room size r b p h = either (StaysAt rows r) (leb lacks 1) (extended-stays room size _ h) (go-stays _ h)
+  field-stays (ExtendedTimestamp before lacks) room size r b p h = either (StaysAt rows r) (leb lacks 1) (whole-stays room size r _ h) (go-stays _ h)
   field-stays MessagePayload room size r b p h = refuse-stays r 255 h
 
 -- a basic header that is whole gives an id other than 0

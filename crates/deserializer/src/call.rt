@@ -1,18 +1,16 @@
 // A call: header bytes one by one and payload by stretches, until a message, a refusal or the end of the input.
 ghost use mathlib.Core.Path.{_≡_};
-ghost use Prim.Native.Nat.{_≤_, _<_, min};
+ghost use Prim.Native.Nat.{_≤_, _<_};
 ghost use mathlib.Core.Bool.{false};
 ghost use lib.ListN.{length};
 ghost use Rattle.byte_machine.specs.Reader.{inPayload};
 ghost use Rattle.deserializer.specs.Call.{closes as Call·closes, isRefusal};
-ghost use Rattle.byte_machine.specs.Rows.{putAt};
 ghost use Rattle.deserializer.specs.Turn.{HeadTurned, Keeps, Pays, Turned, changed as Turn·changed};
 use crate::further::further;
 use crate::head::head;
 use crate::payload::landed;
 use byte_machine::Event;
 use byte_machine::GUARD;
-use byte_machine::ROWS;
 use byte_machine::Reader;
 use byte_machine::Stepped;
 use byte_machine::in_payload;
@@ -22,7 +20,6 @@ use byte_machine::put_at;
 use byte_machine::refuse;
 use byte_machine::step;
 use byte_machine::wide;
-use chunk_meaning::Row;
 use fields::least;
 use fields::put_bytes;
 use time::RtmpTimestamp;

@@ -1,6 +1,6 @@
 // A header in one turn, where all of it is there, its stream has a row and nothing is refused; a byte of it else.
 ghost use mathlib.Core.Path.{_≡_};
-ghost use mathlib.Core.Bool.{false, not};
+ghost use mathlib.Core.Bool.{false};
 ghost use Prim.Native.Nat.{_+_, _≤_, _<_};
 ghost use lib.ListN.{length, take, drop};
 ghost use Rattle.fields.specs.Endian.{number, swapped};
@@ -8,13 +8,12 @@ ghost use Rattle.chunk_header.specs.Table.{headerLength, typeOf};
 ghost use Rattle.chunk_header.specs.declared.ChunkHeaderFormat.the-variants.{TimeDeltaWithoutMessageStreamId};
 ghost use Rattle.deserializer.specs.Chunk.{carried as Chunk·carried};
 ghost use Rattle.deserializer.specs.Head.{Heads, Known, headerIn, refusalOf, settledBy};
-ghost use Rattle.byte_machine.specs.Reader.{current, inPayload, reader as Machine·reader, atStart};
+ghost use Rattle.byte_machine.specs.Reader.{inPayload};
 ghost use Rattle.byte_machine.specs.declared.reader.Stage.the-variants.{Csid};
 ghost use Rattle.deserializer.specs.Turn.{whole};
 use crate::call::Core;
 use byte_machine::ROWS;
 use byte_machine::Reader;
-use byte_machine::Stage;
 use byte_machine::Stepped;
 use byte_machine::Unfinished;
 use byte_machine::find;

@@ -1,10 +1,8 @@
 // The payload of a chunk, copied by stretches.
 ghost use mathlib.Core.Path.{_≡_};
 ghost use Prim.Native.Nat.{_+_, _≤_, _<_};
-ghost use Rattle.byte_machine.specs.Payload.{landed as Machine·landed, pays as Machine·pays};
-ghost use Rattle.byte_machine.specs.Reader.{inPayload};
+ghost use Rattle.byte_machine.specs.Payload.{landed as Machine·landed};
 use byte_machine::Reader;
-use byte_machine::Stage;
 use byte_machine::Stepped;
 use byte_machine::ended;
 use byte_machine::go;

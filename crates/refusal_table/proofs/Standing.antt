@@ -33,7 +33,7 @@ use Rattle.chunk_meaning.specs.Meaning.{basicRefusal, firstRefusal, laterRefusa
 use Rattle.chunk_header.specs.Limits.{maxField}
 use Rattle.byte_machine.specs.Rows.{find, free, rowAt, putAt}
 use Rattle.deserializer.specs.Told.{between}
-use Rattle.byte_machine.proofs.Passing.{at-stream, at-type, at-length, at-timestamp}
+use Rattle.byte_machine.proofs.Passing.{at-stream, at-type, at-length, at-timestamp, either}
 use Rattle.deserializer.proofs.Cut.{message-not-more, refused-not-more}
 use Rattle.deserializer.proofs.Heading.{starts}
 use Rattle.deserializer.proofs.Reached.{Reached, step-reached}
@@ -63,11 +63,6 @@ refusing r k = record { says = tt; fits = λ l. absurd (omega arith) }
 ending : {room : ℕ} (r : Reader) → r .chunk .header .«message_length» ≤ room → Stands room (ended r)
 ending r h = record { says = refl; fits = λ l. h }
 
--- of two ways, either
-either : {room : ℕ} (t : Bool) {a b : Stepped} → Stands room a → Stands room b → Stands room (cond t a b)
-either true p q = p
-either false p q = q
-
 -- a field is not the start of a chunk
 midway : (field : HeaderField) (n : ℕ) → atStart (stageOf field n) ≡ false
 midway Timestamp n = refl
@@ -86,11 +81,11 @@ module _ (room size : ℕ) where
   whole-stands r time =
       let k = firstRefusal (r .chunk .format) (r .chunk .header) time room in
       let j = laterRefusal (r .chunk .format) (r .chunk .before) (r .chunk .header) time in
-      either (eqb (r .message .id) 0) (either (eqb k 0) (opens-stands _ 0) (refusing r k)) (either (eqb j 0) (opens-stands _ (r .message .got)) (refusing r j))
+      either (Stands room) (eqb (r .message .id) 0) (either (Stands room) (eqb k 0) (opens-stands _ 0) (refusing r k)) (either (Stands room) (eqb j 0) (opens-stands _ (r .message .got)) (refusing r j))
 
   extended-stands : (r : Reader) → Stands room (extendedNext room size r)
   unfolding extendedNext
-  extended-stands r = either (eqb (r .chunk .header .«timestamp_field») maxField) (going (at r (ExtendedTimestamp 0 4)) refl) (whole-stands r (r .chunk .header .«timestamp_field»))
+  extended-stands r = either (Stands room) (eqb (r .chunk .header .«timestamp_field») maxField) (going (at r (ExtendedTimestamp 0 4)) refl) (whole-stands r (r .chunk .header .«timestamp_field»))
 
   -- the next field
   stops-stand : (r : Reader) (field : HeaderField) → eqb (lacks r field) 0 ≡ false → Stands room (go (at r (stageOf field (lacks r field))))
@@ -113,7 +108,7 @@ module _ (room size : ℕ) where
   named-stands rows r f id =
       let k = basicRefusal f (ltb (find rows id) 64) (ltb (free rows) 64) (not (eqb (r .message .id) 0)) (eqb (r .message .id) id) in
       let claim : Stands room (claims r f id (free rows)) = record { says = refl; fits = λ l. omega arith } in
-      either (eqb k 0) (either (ltb (find rows id) 64) (timestamp-stands _) claim) (refusing r k)
+      either (Stands room) (eqb k 0) (either (Stands room) (ltb (find rows id) 64) (timestamp-stands _) claim) (refusing r k)
 
   basic-stands : (x : Csid) (rows : List ℕ) (r : Reader) (f : ChunkHeaderFormat) (kept : Stage) → atStart kept ≡ false
       → Stands room (basicBy x room size rows r f kept)
@@ -125,11 +120,11 @@ module _ (room size : ℕ) where
   field-stands AtCsid rows r b = basic-stands (csid (b ∷ [])) rows r (formatOf b) (CsidSecond b) refl
   field-stands (CsidSecond x) rows r b = basic-stands (csid (x ∷ b ∷ [])) rows r (formatOf x) (CsidThird x b) refl
   field-stands (CsidThird x y) rows r b = basic-stands (csid (x ∷ y ∷ b ∷ [])) rows r (formatOf x) (CsidThird x y) refl
-  field-stands (InitialTimestamp before lacks) rows r b = either (leb lacks 1) (length-stands _) (going (at r (InitialTimestamp (gathered before b) (lacks - 1))) refl)
-  field-stands (MessageLength before lacks) rows r b = either (leb lacks 1) (type-stands _) (going (at r (MessageLength (gathered before b) (lacks - 1))) refl)
+  field-stands (InitialTimestamp before lacks) rows r b = either (Stands room) (leb lacks 1) (length-stands _) (going (at r (InitialTimestamp (gathered before b) (lacks - 1))) refl)
+  field-stands (MessageLength before lacks) rows r b = either (Stands room) (leb lacks 1) (type-stands _) (going (at r (MessageLength (gathered before b) (lacks - 1))) refl)
   field-stands MessageTypeId rows r b = stream-stands _
-  field-stands (MessageStreamId before lacks) rows r b = either (leb lacks 1) (extended-stands _) (going (at r (MessageStreamId (gathered before b) (lacks - 1))) refl)
-  field-stands (ExtendedTimestamp before lacks) rows r b = either (leb lacks 1) (whole-stands r _) (going (at r (ExtendedTimestamp (gathered before b) (lacks - 1))) refl)
+  field-stands (MessageStreamId before lacks) rows r b = either (Stands room) (leb lacks 1) (extended-stands _) (going (at r (MessageStreamId (gathered before b) (lacks - 1))) refl)
+  field-stands (ExtendedTimestamp before lacks) rows r b = either (Stands room) (leb lacks 1) (whole-stands r _) (going (at r (ExtendedTimestamp (gathered before b) (lacks - 1))) refl)
   field-stands MessagePayload rows r b = refusing r 255
 
 -- a payload is not the start of a chunk
@@ -147,7 +142,7 @@ unfolding landed
 landed-stands {room} r n p h l =
     let r′ = paid r (r .message .got + n) (r .chunk .left - n) in
     let pause : Stands room (paused r′ (r′ .message .got)) = record { says = h; fits = λ k. l } in
-    either (eqb (r′ .chunk .left) 0) (either (ltb (r′ .message .got) (r′ .chunk .header .«message_length»)) pause (ending r′ l)) (going r′ (in-payload-midway (r .stage) p))
+    either (Stands room) (eqb (r′ .chunk .left) 0) (either (Stands room) (ltb (r′ .message .got) (r′ .chunk .header .«message_length»)) pause (ending r′ l)) (going r′ (in-payload-midway (r .stage) p))
 
 step-stands : (d : ChunkDeserializer) (b : ℕ) → Reached d → Stands (d .room) (stepOf d b)
 unfolding stepOf
@@ -156,7 +151,7 @@ step-stands d b k = by-stage (inPayload (d .reader .stage)) refl
     by-stage : (t : Bool) → inPayload (d .reader .stage) ≡ t
         → Stands (d .room) (cond t (cond (pays (d .room) (d .reader)) (landed (d .reader) 1) (refuse (d .reader) 255)) (stepped (d .reader .stage) (d .room) (d .«max_chunk_size») (d .rows) (d .reader) b))
     by-stage true e =
-        either (pays (d .room) (d .reader)) (landed-stands (d .reader) 1 e (k .sound .owns (in-payload-past (d .reader .stage) e) .used) (k .fits .paying e .fits))
+        either (Stands room) (pays (d .room) (d .reader)) (landed-stands (d .reader) 1 e (k .sound .owns (in-payload-past (d .reader .stage) e) .used) (k .fits .paying e .fits))
         (refusing (d .reader) 255)
     by-stage false e = field-stands (d .room) (d .«max_chunk_size») (d .reader .stage) (d .rows) (d .reader) b
 

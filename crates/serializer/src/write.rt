@@ -1,7 +1,7 @@
 // How a packet is written: chunk after chunk, each field at its place.
 ghost use mathlib.Core.Path.{_≡_};
 ghost use mathlib.Core.List.{[], _++_};
-ghost use Prim.Native.Nat.{_+_, _*_, _≤_, _<_, min};
+ghost use Prim.Native.Nat.{_+_, _*_, _≤_, _<_};
 ghost use lib.ListN.{length};
 ghost use Rattle.fields.specs.Endian.{bigEndian, littleEndian};
 ghost use Rattle.fields.specs.Output.{Adds, over};
