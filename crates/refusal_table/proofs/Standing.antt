@@ -151,7 +151,7 @@ step-stands d b k = by-stage (inPayload (d .reader .stage)) refl
     by-stage : (t : Bool) → inPayload (d .reader .stage) ≡ t
         → Stands (d .room) (cond t (cond (pays (d .room) (d .reader)) (landed (d .reader) 1) (refuse (d .reader) 255)) (stepped (d .reader .stage) (d .room) (d .«max_chunk_size») (d .rows) (d .reader) b))
     by-stage true e =
-        either (Stands room) (pays (d .room) (d .reader)) (landed-stands (d .reader) 1 e (k .sound .owns (in-payload-past (d .reader .stage) e) .used) (k .fits .paying e .fits))
+        either (Stands (d .room)) (pays (d .room) (d .reader)) (landed-stands (d .reader) 1 e (k .sound .owns (in-payload-past (d .reader .stage) e) .used) (k .fits .paying e .fits))
         (refusing (d .reader) 255)
     by-stage false e = field-stands (d .room) (d .«max_chunk_size») (d .reader .stage) (d .rows) (d .reader) b
 
