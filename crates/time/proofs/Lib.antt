@@ -1,1 +1,5 @@
+pub mod DistanceLaws
 pub mod Laws
+pub mod Ordered
+pub mod Signed
+pub mod Ways

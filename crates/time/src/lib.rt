@@ -1,45 +1,22 @@
 // The clock: 32-bit milliseconds that wrap (time.rs of rml_rtmp).
 ghost use mathlib.Core.Path.{_≡_};
-ghost use Rattle.time.specs.Clock.{sum, difference, order};
+ghost use Rattle.time.specs.Clock.{sum, difference};
+ghost use Rattle.time.specs.Distance.{distance};
+
+mod distance;
+
+use crate::distance::distance_of;
 
 // A count of milliseconds from an unknown epoch.
 pub struct RtmpTimestamp {
     pub value: u32,
 }
 
-// How one timestamp stands to another.
-pub enum Order {
-    Earlier,
-    Same,
-    Later,
-}
-
-// What `compare` answers: the order, and the timestamp handed back.
+// What `compare` answers: how far the other timestamp is from this one, positive where the other is later; and this one handed
+// back.
 pub struct Compared {
-    pub order: Order,
+    pub distance: i64,
     pub timestamp: RtmpTimestamp,
-}
-
-// Timestamps at most this far apart compare as numbers.
-const MAX_ADJACENT_VALUE: u32 = 2147483647;
-
-// The order of two different numbers, by how far apart they lie.
-fn order_of(value1: u32, value2: u32) -> Order
-    ensures { λ r. ⌜ r ≡ order value1 value2 ⌝ }
-{
-    if value1 < value2 {
-        if value2 - value1 <= MAX_ADJACENT_VALUE {
-            return Order::Earlier;
-        }
-        return Order::Later;
-    }
-    if value2 < value1 {
-        if value1 - value2 <= MAX_ADJACENT_VALUE {
-            return Order::Later;
-        }
-        return Order::Earlier;
-    }
-    Order::Same
 }
 
 impl RtmpTimestamp {
@@ -73,13 +50,13 @@ impl RtmpTimestamp {
         }
     }
 
-    // How self stands to other.
+    // How far other is from self.
     pub fn compare(self, other: RtmpTimestamp) -> Compared
-        ensures { λ r. ⌜ (r .order ≡ order (self .value) (other .value)) × (r .timestamp ≡ self) ⌝ }
+        ensures { λ r. ⌜ (r .distance ≡ distance (self .value) (other .value)) × (r .timestamp ≡ self) ⌝ }
     {
-        let order = order_of(self.value, other.value);
+        let distance = distance_of(self.value, other.value);
         Compared {
-            order: order,
+            distance: distance,
             timestamp: self,
         }
     }
