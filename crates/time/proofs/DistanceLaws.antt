@@ -1,6 +1,6 @@
 -- The laws of the distance that other crates lean on. Swapping the sides negates the plain difference, and so what is wrapped; all
 -- others go by the four ways in which two timestamps lie.
-use Prim.Native.Nat.{ℕ, zero, suc, _+_, _-_, _^_, _≤_, _<_}
+use Prim.Native.Nat.{ℕ, zero, suc, _-_, _^_, _≤_, _<_}
 use mathlib.Core.Path.{_≡_, refl, sym, ap, _∙_}
 use mathlib.Core.Bool.{Bool, true, false}
 use mathlib.Core.Logic.{_↔_}

@@ -1,11 +1,11 @@
 -- The sign of the distance is document 01's order, by the four ways in which two timestamps lie. The order is not transitive.
-use Prim.Native.Nat.{ℕ, suc, _^_, _<_}
+use Prim.Native.Nat.{ℕ, _^_, _<_}
 use mathlib.Core.Path.{_≡_}
 use mathlib.Core.Logic.{_↔_}
 use native.Mathlib.Omega.{arith}
 use lib.Dec.{lt→ltb, ltb→lt}
 use lib.IntN.{ℤ, pos, negsuc}
-use lib.Signed.{_<ℤ_, ltZ-yes}
+use lib.Signed.{ltZ-yes}
 use Rattle.time.specs.Distance.{wrapped, distance}
 use Rattle.time.specs.Order.{Earlier, Same, Later, Ordered}
 use Rattle.time.proofs.DistanceLaws.{distance-same}

@@ -1,7 +1,7 @@
 -- The four ways in which two timestamps lie: the second on or back from the first, straight or past the end of the round. What is
 -- asked of a distance is then plain arithmetic, way by way.
 use Prim.Native.Nat.{ℕ, suc, _+_, _-_, _^_, _≤_, _<_}
-use mathlib.Core.Path.{_≡_, refl, ap, subst}
+use mathlib.Core.Path.{_≡_, refl}
 use mathlib.Core.Bool.{Bool, true, false}
 use native.Mathlib.Omega.{arith}
 use lib.Dec.{ltb}
@@ -23,15 +23,19 @@ module _ (a b : ℕ) (p : a < 2 ^ 32) (q : b < 2 ^ 32) where
   forwards n e = by (ltb adjacent n) refl
     where
       by : (t : Bool) → ltb adjacent n ≡ t → Way a b (wrapped (pos n))
-      by true f = let h = ltb-true adjacent n f in rw (f, sub-back n (2 ^ 32) (omega arith)) (round-back (2 ^ 32 - suc n) (omega arith) (omega arith) (omega arith))
-      by false f = let h = ltb-false adjacent n f in rw f (on n h e)
+      by true f =
+          let h = ltb-true adjacent n f in
+          rw (f, sub-back n (2 ^ 32) (omega arith)) (round-back (2 ^ 32 - suc n) (omega arith) (omega arith) (omega arith))
+      by false f = rw f (on n (ltb-false adjacent n f) e)
 
   backwards : (n : ℕ) → a ≡ b + suc n → Way a b (wrapped (negsuc n))
   unfolding wrapped
   backwards n e = by (ltb (adjacent - 1) n) refl
     where
       by : (t : Bool) → ltb (adjacent - 1) n ≡ t → Way a b (wrapped (negsuc n))
-      by true f = let h = ltb-true (adjacent - 1) n f in rw (f, sub-on (2 ^ 32) (suc n) (omega arith)) (round-on (2 ^ 32 - suc n) (omega arith) (omega arith) (omega arith))
+      by true f =
+          let h = ltb-true (adjacent - 1) n f in
+          rw (f, sub-on (2 ^ 32) (suc n) (omega arith)) (round-on (2 ^ 32 - suc n) (omega arith) (omega arith) (omega arith))
       by false f = let h = ltb-false (adjacent - 1) n f in rw f (back n (omega arith) e)
 
   pub way : Way a b (distance a b)

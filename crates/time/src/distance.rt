@@ -16,7 +16,7 @@ fn minus(second: u32, first: u32) -> i64
     (second as i64) - (first as i64)
 }
 
-// A plain difference that is beyond MAX_ADJACENT_VALUE, a round less or a round more.
+// A plain difference, a round less or a round more where it is beyond MAX_ADJACENT_VALUE.
 fn wrap(plain: i64) -> i64
     ensures { λ r. ⌜ r ≡ wrapped plain ⌝ }
 {

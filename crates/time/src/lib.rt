@@ -56,7 +56,7 @@ impl RtmpTimestamp {
     {
         let distance = distance_of(self.value, other.value);
         Compared {
-            distance: distance,
+            distance,
             timestamp: self,
         }
     }
