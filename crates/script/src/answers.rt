@@ -1,6 +1,7 @@
 // What lines answer, as text.
 use crate::decoded::put_decoded;
 use crate::events::put_event;
+use crate::order::put_order;
 use crate::output::end_answer;
 use crate::state::State;
 use script_calls::Outcome;
@@ -8,10 +9,9 @@ use script_text::put;
 use script_text::put_hex;
 use script_text::put_number;
 use script_text::put_numbered;
+use script_text::put_signed;
 use script_text::put_words;
-use script_text::word;
 use test_parts::part;
-use time::Order;
 
 // Puts `ok` behind the text.
 fn put_ok(text: &mut [u8], filled: usize) -> usize {
@@ -30,24 +30,6 @@ fn put_wrote(text: &mut [u8], filled: usize, count: usize, output: &[u8]) -> usi
     put_hex(text, spaced, part(output, 0, count))
 }
 
-// The place of the word that says how one timestamp stands to another.
-fn order_place(order: Order) -> usize {
-    match order {
-        Order::Earlier => 0,
-        Order::Same => 1,
-        Order::Later => 2,
-    }
-}
-
-// Puts how one timestamp stands to another behind the text.
-fn put_order(text: &mut [u8], filled: usize, order: Order) -> usize {
-    put_words(
-        text,
-        filled,
-        word(b"earlier same later", order_place(order)),
-    )
-}
-
 // Puts what a call answers behind the text.
 fn put_outcome(
     text: &mut [u8],
@@ -61,7 +43,8 @@ fn put_outcome(
         Outcome::Wrote(count) => put_wrote(text, filled, count, output),
         Outcome::Refused(number) => put_refused(text, filled, number),
         Outcome::Timestamp(value) => put_number(text, filled, value as u64),
-        Outcome::Order(order) => put_order(text, filled, order),
+        Outcome::Compared(distance) => put_order(text, filled, distance),
+        Outcome::Distance(distance) => put_signed(text, filled, distance),
         Outcome::Event(event) => put_event(text, filled, event),
         Outcome::Decoded(answer) => put_decoded(text, filled, answer, payload),
         _ => filled,

@@ -5,6 +5,7 @@ mod decoded;
 mod events;
 mod input;
 mod lines;
+mod order;
 mod output;
 mod state;
 mod turns;

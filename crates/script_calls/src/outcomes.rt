@@ -1,6 +1,5 @@
 // What becomes of a line.
 use deserializer::Answer;
-use time::Order;
 use user_control::UserControlEvent;
 
 // What a line answers. Bytes that were written stand at the start of the output, and a payload at the
@@ -15,7 +14,9 @@ pub enum Outcome {
     // the number of the refusal
     Refused(u8),
     Timestamp(u32),
-    Order(Order),
+    // how far it is from one timestamp to another, to tell which is later, or to tell how far
+    Compared(i64),
+    Distance(i64),
     Event(UserControlEvent),
     Decoded(Answer),
 }

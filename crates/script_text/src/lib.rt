@@ -4,6 +4,7 @@ mod calls;
 mod hex;
 mod names;
 mod numbers;
+mod signed;
 mod text;
 mod words;
 
@@ -12,6 +13,7 @@ pub use crate::calls::read_call;
 pub use crate::hex::put_hex;
 pub use crate::names::place_of;
 pub use crate::names::put_event_name;
+pub use crate::signed::put_signed;
 pub use crate::text::put;
 pub use crate::text::put_number;
 pub use crate::text::put_numbered;
