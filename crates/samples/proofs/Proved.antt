@@ -16,9 +16,10 @@ use Rattle.byte_machine.specs.Header.{opens, whole, extendedNext, streamNext, t
 use Rattle.chunk_meaning.specs.Meaning.{basicRefusal, laterRefusal, firstRefusal}
 use Rattle.byte_machine.specs.Rows.{putRow, seek}
 use Rattle.deserializer.specs.Told.{made}
+use Rattle.time.specs.Distance.{wrapped}
 use Rattle.samples.specs.Sample.{AsPrinted}
 use Rattle.samples.specs.Table.{table}
 
 pub samples-hold : AsPrinted table
-unfolding fieldLength formatOf after next run stepOf writes opens whole extendedNext streamNext typeNext lengthNext timestampNext named timestampField lengthField typeField streamField extendedField pays landed basicRefusal laterRefusal firstRefusal putRow seek made bigEndian littleEndian gather csid chunkBytes known count reading delta format chunkStream pieces packet sent serialized sizeChanged
+unfolding fieldLength formatOf after next run stepOf writes opens whole extendedNext streamNext typeNext lengthNext timestampNext named timestampField lengthField typeField streamField extendedField pays landed basicRefusal laterRefusal firstRefusal putRow seek made bigEndian littleEndian gather csid chunkBytes known count reading delta format chunkStream pieces packet sent serialized sizeChanged wrapped
 samples-hold = refl

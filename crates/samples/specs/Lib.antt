@@ -1,4 +1,5 @@
 pub mod Decoded
+pub mod Distances
 pub mod Encoded
 pub mod Sample
 pub mod Table

@@ -1,4 +1,4 @@
--- The samples of document 01 that are marked M, in its order, and Adobe's worked examples.
+-- The samples of document 01 that are marked M, in its order, Adobe's worked examples, and distances.
 use Prim.Native.Nat.{ℕ}
 use mathlib.Core.Bool.{true, false}
 use mathlib.Core.List.{List, [], _∷_}
@@ -10,6 +10,7 @@ use Rattle.user_control.specs.Answer.{Answer, event, wrote, refused}
 use Rattle.user_control.specs.Body.{body}
 use Rattle.user_control.specs.Reading.{reading}
 use Rattle.samples.specs.Decoded.{decoded}
+use Rattle.samples.specs.Distances.{distances}
 use Rattle.samples.specs.Encoded.{Call, send, size, encoded}
 use Rattle.samples.specs.Sample.{Sample, _is_}
 use Rattle.samples.specs.Worked.{audio, video, sizes, firstBytes}
@@ -116,4 +117,5 @@ table =
     ∷ firstBytes 12 audio is (0x03 ∷ 0x00 ∷ 0x03 ∷ 0xE8 ∷ 0x00 ∷ 0x00 ∷ 0x20 ∷ 0x08 ∷ 0x39 ∷ 0x30 ∷ 0x00 ∷ 0x00 ∷ [])
     ∷ sizes video is (140 ∷ 129 ∷ 52 ∷ [])
     ∷ firstBytes 12 video is (0x04 ∷ 0x00 ∷ 0x03 ∷ 0xE8 ∷ 0x00 ∷ 0x01 ∷ 0x33 ∷ 0x09 ∷ 0x3A ∷ 0x30 ∷ 0x00 ∷ 0x00 ∷ [])
-    ∷ []
+    -- how far apart two timestamps are
+    ∷ distances
