@@ -4,13 +4,15 @@ BAD_LINES = [
     # spaces and line ends
     b" time add 1 2", b"time add 1 2 ", b"time  add 1 2", b"time add 1 2\r", b"time\tadd 1 2", b"\r", b" ", b"\t", b" #",
     # words
-    b"time", b"time add", b"time add 1", b"time add 1 2 3", b"Time add 1 2", b"time mul 1 2", b"\xff", b"control",
+    b"time", b"time add", b"time add 1", b"time add 1 2 3", b"Time add 1 2", b"time mul 1 2", b"time distance 1",
+    b"time distance 1 2 3", b"\xff", b"control",
     b"control read", b"control read 00 00", b"control write begin 1", b"control write buffer 1 6", b"control write begin 1 2 6",
     b"control write none 1 6", b"control write Begin 1 6", b"enc", b"enc new 1", b"enc old", b"enc msg",
     b"enc msg 9 1 0 0 0 10", b"enc msg 9 1 0 0 0 10 00 00", b"enc size 1 1", b"enc size 1 0 10 -", b"dec", b"dec new",
     b"dec new 1 1", b"dec feed 10", b"dec size", b"dec size 1 1",
     # numbers
     b"time add 01 2", b"time add 00 2", b"time add -1 2", b"time add +1 2", b"time add 1 4294967296",
+    b"time distance -1 2", b"time distance 4294967296 0",
     b"time add 1 99999999999999999999", b"time add 1 0x5", b"time add a 2", b"time add 1 -", b"time add 1 \xb2",
     b"control write begin 4294967296 6", b"control write begin 1 131073", b"enc msg 256 1 0 0 0 10 00",
     b"enc msg 9 4294967296 0 0 0 10 00", b"enc msg 9 1 4294967296 0 0 10 00", b"enc msg 9 1 0 2 0 10 00",
@@ -26,7 +28,7 @@ BAD_LINES = [
 
 GOOD_LINES = [
     b"# a comment with  two spaces", b"#", b"", b"control read " + b"0" * 262130, b"#" * 262144, b"control read 0006AbCdEf01",
-    b"time add 4294967295 4294967295", b"control write buffer 1 500 131072", b"control read -",
+    b"time add 4294967295 4294967295", b"time distance 0 2147483648", b"control write buffer 1 500 131072", b"control read -",
     b"enc msg 255 4294967295 4294967295 1 1 131072 0A", b"enc size 2147483647 4294967295 131072", b"dec new 4294967295",
     b"dec new 1", b"dec feed 262144 -", b"dec feed 0 -", b"dec size 4294967295",
 ]

@@ -22,6 +22,10 @@ SAMPLES = [
     (["enc size 4096 0 64"], "wrote 16 02000000000004010000000000001000"),
     (["control write buffer 1 500 10"], "wrote 10 000300000001000001f4"),
     (["control read 000300000001000001F4"], "buffer 1 500"),
+    # the owner's distances, and a pair of document 01
+    (["time distance 2147483648 0"], "2147483648"),
+    (["time distance 0 2147483648"], "-2147483648"),
+    (["time distance 4000000000 10000"], "294977296"),
     # 129 bytes of type 9
     (["enc msg 9 1 0 0 0 142 " + LONG], "wrote 142 "),
     (["enc msg 9 1 0 0 0 141 " + LONG], "refused 5"),

@@ -8,6 +8,7 @@ pub enum Answer {
     Ok,
     Timestamp(u32),
     Order(Ordering),
+    Distance(i64),
     Event(Event),
     Wrote(Vec<u8>),
     Message {
@@ -44,6 +45,7 @@ impl fmt::Display for Answer {
             Answer::Ok => write!(f, "ok"),
             Answer::Timestamp(value) => write!(f, "{}", value),
             Answer::Order(order) => write!(f, "{}", order_word(*order)),
+            Answer::Distance(distance) => write!(f, "{}", distance),
             Answer::Event(event) => write!(f, "{}", event),
             Answer::Wrote(bytes) => write!(f, "wrote {} {}", bytes.len(), hex(bytes)),
             Answer::Message { message: m, used } => write!(

@@ -13,6 +13,7 @@ pub enum ClockOp {
     Sub,
     Set,
     Compare,
+    Distance,
 }
 
 /// A user control event with exactly its numbers.
@@ -94,6 +95,7 @@ fn read_clock(op: &[u8], a: &[u8], b: &[u8]) -> Option<Call> {
         b"sub" => ClockOp::Sub,
         b"set" => ClockOp::Set,
         b"cmp" => ClockOp::Compare,
+        b"distance" => ClockOp::Distance,
         _ => return None,
     };
     Some(Call::Clock { op, a: number(a)?, b: number(b)? })

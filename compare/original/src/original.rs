@@ -8,6 +8,7 @@ use rml_rtmp::messages::types::user_control;
 use rml_rtmp::messages::{MessageDeserializationError, MessageSerializationError};
 use rml_rtmp::messages::{MessagePayload, RtmpMessage, UserControlEventType};
 use rml_rtmp::time::RtmpTimestamp;
+use std::cmp::Ordering;
 use std::convert::Infallible;
 use std::fmt::Display;
 use std::panic::{catch_unwind, AssertUnwindSafe};
@@ -125,6 +126,17 @@ fn clock(op: ClockOp, a: u32, b: u32) -> Answer {
             Answer::Timestamp(first.value)
         }
         ClockOp::Compare => Answer::Order(first.cmp(&second)),
+        ClockOp::Distance => Answer::Distance(distance(first, second)),
+    }
+}
+
+/// The original has no signed distance. This is what its own order and subtraction say: how far it
+/// is from the earlier to the later one, negative where the first is the later.
+fn distance(first: RtmpTimestamp, second: RtmpTimestamp) -> i64 {
+    match first.cmp(&second) {
+        Ordering::Less => i64::from((second - first).value),
+        Ordering::Equal => 0,
+        Ordering::Greater => -i64::from((first - second).value),
     }
 }
 

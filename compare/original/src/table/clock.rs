@@ -13,6 +13,7 @@ pub fn answer(op: ClockOp, a: u32, b: u32) -> Answer {
         ClockOp::Sub => Answer::Timestamp(subtract(a, b)),
         ClockOp::Set => Answer::Timestamp(b),
         ClockOp::Compare => Answer::Order(compare(a, b)),
+        ClockOp::Distance => Answer::Distance(distance(a, b)),
     }
 }
 
@@ -32,5 +33,18 @@ fn compare(a: u32, b: u32) -> Ordering {
         a.cmp(&b)
     } else {
         b.cmp(&a)
+    }
+}
+
+/// "Second minus first where that is within 2147483647, else that plus or minus 4294967296 so that
+/// the later one is positive."
+fn distance(first: u32, second: u32) -> i64 {
+    let plain = i64::from(second) - i64::from(first);
+    if plain.abs() <= 2_147_483_647 {
+        return plain;
+    }
+    match compare(first, second) {
+        Ordering::Less => plain + ROUND as i64,
+        _ => plain - ROUND as i64,
     }
 }
