@@ -1,4 +1,5 @@
 pub mod DistanceLaws
+pub mod Group
 pub mod Laws
 pub mod Ordered
 pub mod Signed
