@@ -2,11 +2,11 @@
 use Prim.Native.Nat.{ℕ, zero, suc, _^_, _≤_, _<_}
 use mathlib.Core.Bool.{Bool, true, false, not, _&&_}
 use mathlib.Core.Logic.{_≢_}
-use mathlib.Core.Path.{_≡_, refl}
+use mathlib.Core.Path.{_≡_, refl, sym, _∙_}
 use native.Mathlib.Omega.{arith}
 use lib.Dec.{eqb, ltb}
-use borrow.Author.Tests.{eqb-false, le-ltb, lt-ltb, ltb-false, ne-eqb}
-use Rattle.fields.proofs.Tests.{neither}
+use borrow.Author.Tests.{eqb-false, eqb-true, le-ltb, lt-ltb, ltb-false, ne-eqb}
+use Rattle.fields.proofs.Tests.{clash, neither}
 use Rattle.chunk_header.specs.Limits.{maxLength, maxSize}
 use Rattle.settings.specs.declared.Settings.{Settings}
 use Rattle.settings.specs.Limits.{holds, outside}
@@ -60,3 +60,11 @@ module _ (v : ℕ) (s : Settings) where
       let most = kind-most v in
       let e : kindWidth v ≡ 1 = omega arith in
       rw (holds-kind h, e, lt-ltb (s .«camera_kind») 256 (omega arith))
+
+-- version 1 holds a kind of 0 only
+pub no-kind : (s : Settings) → holds 1 s ≡ true → s .«camera_kind» ≡ 0
+no-kind s h = by-outside (outside s) refl
+  where
+    by-outside : (t : Bool) → outside s ≡ t → s .«camera_kind» ≡ 0
+    by-outside true e = clash (holds-none 1 s e) h
+    by-outside false e = eqb-true (s .«camera_kind») 0 (sym (holds-no-kind 1 s e refl) ∙ h)
