@@ -3,6 +3,7 @@ use crate::decoded::put_decoded;
 use crate::events::put_event;
 use crate::output::end_answer;
 use crate::state::State;
+use crate::stored::put_settings;
 use script_calls::Outcome;
 use script_text::put;
 use script_text::put_hex;
@@ -63,6 +64,7 @@ fn put_outcome(
         Outcome::Timestamp(value) => put_number(text, filled, value as u64),
         Outcome::Order(order) => put_order(text, filled, order),
         Outcome::Event(event) => put_event(text, filled, event),
+        Outcome::Settings { settings, used } => put_settings(text, filled, settings, used),
         Outcome::Decoded(answer) => put_decoded(text, filled, answer, payload),
         _ => filled,
     }

@@ -7,6 +7,7 @@ mod input;
 mod lines;
 mod output;
 mod state;
+mod stored;
 mod turns;
 
 // What is read: the unfinished line that is kept, of up to 262144 bytes, and at least as many more.

@@ -1,5 +1,6 @@
 // What becomes of a line.
 use deserializer::Answer;
+use settings::Settings;
 use time::Order;
 use user_control::UserControlEvent;
 
@@ -17,5 +18,7 @@ pub enum Outcome {
     Timestamp(u32),
     Order(Order),
     Event(UserControlEvent),
+    // what a record says, and how many bytes it has
+    Settings { settings: Settings, used: usize },
     Decoded(Answer),
 }

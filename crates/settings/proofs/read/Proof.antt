@@ -5,7 +5,7 @@ use mathlib.Core.List.{List}
 use mathlib.Core.Path.{_≡_, refl, sym, ap, _∙_}
 use native.Mathlib.Omega.{arith}
 use borrow.Author.Tests.{not-true, not-false}
-use Rattle.settings.specs.Answer.{settings}
+use Rattle.settings.specs.Answer.{refusedVersion, settings}
 use Rattle.settings.specs.declared.Settings.{Settings}
 use Rattle.settings.specs.Limits.{outside}
 use Rattle.settings.specs.Reading.{known, lengthIn, settingsIn, short, versionIn}
@@ -60,7 +60,7 @@ returns-2 c =
     let bytes = a .bytes .now in
     let read = c .before .before .version-in .ensures in
     let other : known (versionOf (a .newest)) (versionIn bytes) ≡ false = rw (← read) (sym (c .before .is-known .ensures) ∙ not-true _ (c .if2 .taken)) in
-    rw read (sym (reads-unknown (versionOf (a .newest)) bytes (sym (i .before .is-short .ensures) ∙ i .if1 .left) other))
+    ap (refusedVersion 26) read ∙ sym (reads-unknown (versionOf (a .newest)) bytes (sym (i .before .is-short .ensures) ∙ i .if1 .left) other)
 
 length-in-requires : tie.Need-length-in-requires
 length-in-requires c κs = search needs
