@@ -1,12 +1,12 @@
 -- Numbers of given widths, written and read again, and bytes read and written again: both go number by number.
-use Prim.Native.Nat.{ℕ, zero, suc, _+_, _^_, _≤_, _<_}
-use mathlib.Core.Bool.{true, and-eq-true-iff, _&&_}
+use Prim.Native.Nat.{ℕ, _+_, _^_, _≤_, _<_}
+use mathlib.Core.Bool.{true, and-eq-true-iff}
 use mathlib.Core.List.{List, [], _∷_, _++_, append-assoc}
-use mathlib.Core.Path.{_≡_, refl, ap, _∙_}
+use mathlib.Core.Path.{_≡_, refl}
 use native.Mathlib.Nat.{lt-of-lt-of-le, pow-le-pow-right}
 use native.Mathlib.Omega.{arith}
 use lib.Dec.{lit<, ltb}
-use lib.ListN.{length, take, drop, length-append, length-drop, length-take}
+use lib.ListN.{length, take, drop, length-drop, length-take}
 use lib.Seq.{drop-at, take-add, take-at}
 use borrow.Author.Tests.{lt-ltb, ltb-true}
 use Rattle.fields.specs.Endian.{Bytes, bigEndian, number}
@@ -15,11 +15,6 @@ use Rattle.fields.proofs.Lists.{big-take, bytes-drop, bytes-take}
 use Rattle.settings.specs.Limits.{fit}
 use Rattle.settings.specs.Reading.{numbersIn}
 use Rattle.settings.specs.Record.{laid, total}
-
-pub length-laid : (ws ns : List ℕ) → length ns ≡ length ws → length (laid ws ns) ≡ total ws
-length-laid [] ns e = refl
-length-laid (w ∷ ws) [] e = absurd (omega arith)
-length-laid (w ∷ ws) (n ∷ ns) e = rw (length-append, length-big, length-laid ws ns (omega arith))
 
 -- what was written, read again
 pub numbers-laid : (ws ns rest : List ℕ) → length ns ≡ length ws → fit ws ns ≡ true → numbersIn ws (laid ws ns ++ rest) ≡ ns

@@ -1,20 +1,18 @@
 -- What readers of two versions make of the same bytes: the version byte alone tells them apart.
 use Prim.Native.Nat.{ℕ, _≤_, _<_}
-use mathlib.Core.Bool.{true, false, and-eq-true-iff, not}
+use mathlib.Core.Bool.{false, and-eq-true-iff, not}
 use mathlib.Core.List.{List, _++_}
-use mathlib.Core.Logic.{_≢_}
-use mathlib.Core.Path.{_≡_, refl, sym, _∙_}
+use mathlib.Core.Path.{_≡_}
 use native.Mathlib.Omega.{arith}
 use lib.Dec.{eqb, leb}
 use borrow.Author.Tests.{eqb-false, le-leb, leb-true, lt-leb, ne-eqb, not-true}
 use Rattle.fields.specs.Endian.{Bytes}
 use Rattle.settings.specs.declared.Settings.{Settings}
 use Rattle.settings.specs.Answer.{settings, refusedVersion}
-use Rattle.settings.specs.Limits.{holds}
 use Rattle.settings.specs.Reading.{known, reading, short, versionIn}
 use Rattle.settings.specs.Record.{recordOf}
 use Rattle.settings.proofs.Inside.{no-kind}
-use Rattle.settings.proofs.RoundTrip.{Reads, version-written, whole-written, written-read}
+use Rattle.settings.proofs.RoundTrip.{version-written, whole-written, written-read}
 use Rattle.settings.proofs.Ways.{reads-unknown}
 
 -- a newer reader answers every version of an older one as that does, its refusals too

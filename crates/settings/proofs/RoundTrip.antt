@@ -1,25 +1,29 @@
 -- Reading what was written gives the settings back whatever follows, and what reads as settings is what writing them gives.
-use Prim.Native.Nat.{ℕ, zero, suc, _+_, _≤_, _<_}
-use mathlib.Core.Bool.{Bool, true, false, and-eq-true-iff, cond, not, _&&_}
-use mathlib.Core.List.{List, [], _∷_, _++_, append-assoc}
+use Prim.Native.Nat.{ℕ, suc, _+_, _≤_}
+use mathlib.Core.Bool.{Bool, true, false, and-eq-true-iff, cond, not}
+use mathlib.Core.List.{List, _∷_, _++_, append-assoc}
 use mathlib.Core.Path.{_≡_, refl, sym, ap, _∙_}
 use native.Mathlib.Omega.{arith}
-use lib.Dec.{eqb, leb, ltb}
-use lib.ListN.{length, take, drop, getD, length-append, length-drop}
-use lib.Seq.{drop-at, drop-cons, drop-drop, take-add, take-at}
+use lib.Dec.{eqb, ltb}
+use lib.ListN.{length, take, drop, length-append, length-drop}
+use lib.Seq.{drop-cons, take-add, take-at}
 use borrow.Author.Tests.{eqb-true, le-ltb, ltb-false, ne-eqb, not-true}
 use Rattle.fields.specs.Endian.{Bytes, bigEndian}
+use Rattle.fields.specs.Output.{over}
+use Rattle.fields.specs.Writing.{Outcome, lacks, outcome, refuse, writing, wrote}
+use Rattle.fields.specs.Writing.{refused as not-written}
 use Rattle.fields.proofs.Endian.{length-big, number-big}
 use Rattle.fields.proofs.Lists.{big-take, bytes-drop}
 use Rattle.fields.proofs.Tests.{neither}
 use Rattle.settings.specs.declared.Settings.{Settings}
-use Rattle.settings.specs.Answer.{Answer, settings, refused, refusedVersion}
+use Rattle.settings.specs.Answer.{settings, refused, refusedVersion}
 use Rattle.settings.specs.Limits.{fit, holds, outside}
-use Rattle.settings.specs.Reading.{known, lengthIn, numbersIn, reading, settingsIn, settingsOf, short, versionIn}
+use Rattle.settings.specs.Reading.{known, lengthIn, reading, settingsIn, settingsOf, short, versionIn}
 use Rattle.settings.specs.Record.{bodyLength, laid, numbers, recordOf, total, widths}
-use Rattle.settings.proofs.Laid.{fit-numbers, laid-numbers, length-laid, numbers-laid}
-use Rattle.settings.proofs.Record.{kind-most, length-record, length-small}
-use Rattle.settings.proofs.Ways.{reads-settings, reads-unknown}
+use Rattle.settings.specs.Storing.{storing}
+use Rattle.settings.proofs.Laid.{fit-numbers, laid-numbers, numbers-laid}
+use Rattle.settings.proofs.Record.{kind-most, length-record}
+use Rattle.settings.proofs.Ways.{reads-settings}
 
 -- the parts of a record with bytes after it
 module _ (v : ℕ) (s : Settings) (rest : List ℕ) where
@@ -57,6 +61,26 @@ read-written newest v s rest k h =
     let length = length-written v s rest in
     reads-settings newest bytes (whole-written v s rest) (rw version k) (rw version length) inside
     ∙ rw (same, length, length-record v s)
+
+never-wrote : (k n : ℕ) → not-written k ≡ wrote n → ⊥
+never-wrote k n h = let z : _≡_ {A = ℕ} 0 1 = cc in omega arith
+
+-- .. and so of the output that writing left
+pub read-stored : (newest version : ℕ) (s : Settings) (output : List ℕ) (n : ℕ) (output′ : List ℕ) → known newest version ≡ true
+    → storing version s output ≡ outcome (wrote n) output′ → reading newest output′ ≡ settings s n
+unfolding storing writing
+read-stored newest v s output n output′ k h = go (holds v s) (lacks output (recordOf v s)) refl h
+  where
+    go : (b l : Bool) → holds v s ≡ b
+        → cond (not b) (refuse 28 output) (cond l (refuse 5 output) (outcome (wrote (length (recordOf v s))) (over (recordOf v s) output))) ≡ outcome (wrote n) output′
+        → reading newest output′ ≡ settings s n
+    go true false e h =
+        let left : over (recordOf v s) output ≡ output′ = ap (λ (o : Outcome). o .output) h in
+        let answer : wrote (length (recordOf v s)) ≡ wrote n = ap (λ (o : Outcome). o .answer) h in
+        let count : length (recordOf v s) ≡ n = cc in
+        rw (← left, ← count) (read-written newest v s (drop (length (recordOf v s)) output) k e)
+    go true true e h = absurd (never-wrote 5 n (ap (λ (o : Outcome). o .answer) h))
+    go false l e h = absurd (never-wrote 28 n (ap (λ (o : Outcome). o .answer) h))
 
 -- what bytes are that read as settings
 pub record Reads (newest : ℕ) (bytes : List ℕ) (s : Settings) (used : ℕ) : Type 0 where

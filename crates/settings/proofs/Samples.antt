@@ -3,7 +3,7 @@ use Prim.Native.Nat.{ℕ}
 use mathlib.Core.List.{List, [], _∷_, _++_}
 use mathlib.Core.Path.{_≡_, refl}
 use Rattle.fields.specs.Endian.{bigEndian, gather}
-use Rattle.fields.specs.Writing.{outcome, refuse, writing, wrote}
+use Rattle.fields.specs.Writing.{refuse, writing}
 use Rattle.settings.specs.declared.Settings.{Settings}
 use Rattle.settings.specs.Answer.{settings, refused, refusedVersion}
 use Rattle.settings.specs.Limits.{holds, outside}

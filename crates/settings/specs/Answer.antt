@@ -1,6 +1,6 @@
 -- Each answer's number and values, as document 02 lists them. Every promise of this crate goes through these.
 use Prim.Native.Nat.{ℕ}
-use Rattle.fields.specs.Writing.{Wrote, wrote} 
+use Rattle.fields.specs.Writing.{Wrote, wrote}
 use Rattle.fields.specs.Writing.{refused as not-written}
 use Rattle.settings.specs.declared.Settings.{Settings}
 use Rattle.settings.specs.declared.Reading.{Reading}

@@ -1,10 +1,9 @@
 -- Each part of the record is put straight after the one before, and the output reaches to the end of the last.
 use Prim.Native.Nat.{_/_, _%_, _^_}
-use mathlib.Core.List.{List, [], _∷_, _++_, append-nil}
-use mathlib.Core.Path.{_≡_, refl, ap, _∙_}
+use mathlib.Core.List.{[], _∷_, _++_, append-nil}
+use mathlib.Core.Path.{_≡_, refl}
 use native.Mathlib.Omega.{arith}
 use Rattle.fields.specs.Endian.{bigEndian}
-use Rattle.fields.specs.Output.{over}
 use Rattle.fields.proofs.Endian.{length-big}
 use Rattle.fields.proofs.Lists.{stored-next}
 use Rattle.settings.specs.Record.{bodyLength, kindWidth, recordOf}

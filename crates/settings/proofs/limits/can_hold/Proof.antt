@@ -1,5 +1,5 @@
 -- Each way out is one of the laws of Inside.
-use mathlib.Core.Path.{sym, ap, _∙_}
+use mathlib.Core.Path.{sym, _∙_}
 use Rattle.settings.proofs.Inside.{holds-none, holds-no-kind, holds-any-kind}
 use borrow.Author.Needs.{needs}
 use Rattle.settings.proofs.limits.can_hold.Statement.{statement}

@@ -1,5 +1,4 @@
 -- Each way out is a part of the definition's test.
-use mathlib.Core.Path.{ap, _∙_}
 use native.Mathlib.Omega.{arith}
 use borrow.Author.Tests.{lt-ltb, le-ltb, eq-eqb, ne-eqb}
 use Rattle.fields.specs.Endian.{Bytes}

@@ -1,11 +1,7 @@
 -- Each number stands straight after the one before it, and has four bytes at most, so nothing of it is lost.
-use Prim.Native.Nat.{ℕ, _+_, _≤_, _%_, _^_}
-use mathlib.Core.List.{List}
-use mathlib.Core.Path.{_≡_, _∙_}
 use native.Mathlib.Omega.{arith}
-use lib.ListN.{take, drop}
 use lib.Seq.{drop-drop}
-use Rattle.fields.specs.Endian.{Bytes, number}
+use Rattle.fields.specs.Endian.{Bytes}
 use Rattle.fields.proofs.Lists.{part-fits}
 use Rattle.settings.specs.Reading.{settingsIn}
 use Rattle.settings.specs.Record.{kindWidth}
