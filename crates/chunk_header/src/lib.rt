@@ -47,6 +47,9 @@ pub const INITIAL_MAX_CHUNK_SIZE: u32 = 128;
 
 pub const LARGEST_CHUNK_SIZE: u32 = 2147483647;
 
+// The largest room of a decoder: no message is longer.
+pub const LARGEST_ROOM: u32 = 16777215;
+
 // Field lengths by chunk type: timestamp, message length, message type, message stream.
 const FIELD_LENGTHS: [usize; 16] = [3, 3, 1, 4, 3, 3, 1, 0, 3, 0, 0, 0, 0, 0, 0, 0];
 

@@ -25,10 +25,8 @@ use byte_machine::is_midway;
 use chunk_header::ChunkHeaderFormat;
 use chunk_header::INITIAL_MAX_CHUNK_SIZE;
 use chunk_header::LARGEST_CHUNK_SIZE;
+use chunk_header::LARGEST_ROOM;
 use chunk_meaning::claimed;
-
-// No message is longer.
-const LARGEST_ROOM: u32 = 16777215;
 
 // A decoder: its room, the chunk size in force, the number that it is closed with (0: it is open), the reader of one byte
 // after the other, and the table of 64 rows of six numbers.

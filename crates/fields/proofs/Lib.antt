@@ -4,3 +4,4 @@ pub mod Lists
 pub mod Swapped
 pub mod Table
 pub mod Tests
+pub mod Writing

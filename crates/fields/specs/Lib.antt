@@ -2,3 +2,4 @@ pub mod Cases
 pub mod Deciding
 pub mod Endian
 pub mod Output
+pub mod Writing

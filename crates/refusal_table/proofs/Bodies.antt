@@ -9,19 +9,17 @@ use lib.Dec.{eqb, ltb}
 use lib.ListN.{drop, length}
 use borrow.Author.Tests.{eqb-false, eqb-true}
 use Rattle.fields.specs.Output.{over}
+use Rattle.fields.specs.Writing.{Outcome, lacks, outcome, refuse, writing, wrote}
+use Rattle.fields.specs.Writing.{refused as not-written}
 use Rattle.user_control.specs.declared.UserControlEvent.{UserControlEvent}
-use Rattle.user_control.specs.Answer.{Answer, event, refused, wrote}
+use Rattle.user_control.specs.Answer.{Answer, event, refused}
 use Rattle.user_control.specs.Body.{body}
 use Rattle.user_control.specs.Reading.{bodyLength, codeIn, count, known, numbersIn, reading, short}
-use Rattle.user_control.specs.Writing.{lacks, leaves, writing}
 use Rattle.refusal_table.specs.Conditions.{fifteen, sixteen}
 use Rattle.refusal_table.specs.Terms.{OneOf, Row, _unless_}
 use Rattle.refusal_table.proofs.Deciding.{Among, Decides, Gives, both, here, in-words, later, less, listed, no-refusal, not-decides, one-of, then-one}
 
 -- an answer that is no refusal, and one that is
-written : (n k : ℕ) → wrote n ≢ refused k
-written n k h = let z : _≡_ {A = ℕ} 0 1 = cc in omega arith
-
 read : (c : ℕ) (ns : List ℕ) (k : ℕ) → event c ns ≢ refused k
 read c ns k h = let z : _≡_ {A = ℕ} 0 1 = cc in omega arith
 
@@ -73,19 +71,30 @@ module _ (bytes : List ℕ) where
   unfolding reading
   body-no-other = then-one (short bytes) (gives 15) unknown-only .no-other
 
--- what is written
+-- what is written: 5, and the output as before
+abbrev IsWritten : ℕ → Outcome → Type 0
+IsWritten k o = o .answer ≡ not-written k
+
+write-gives : (output : List ℕ) → Gives IsWritten (λ o. o .output ≡ output) 5 (refuse 5 output)
+write-gives output = record { is = refl; only = λ m h. cc; left = refl }
+
+written : (n k : ℕ) → wrote n ≢ not-written k
+written n k h = let z : _≡_ {A = ℕ} 0 1 = cc in omega arith
+
 module _ (e : UserControlEvent) (output : List ℕ) where
-  none-written : Among Is (λ a. Unit {0}) [] (wrote (length (body e)))
+  none-written : Among IsWritten (λ o. o .output ≡ output) [] (outcome (wrote (length (body e))) (over (body e) output))
   none-written = no-refusal (written (length (body e)))
 
-  pub write-5 : Row (writing (body e) output ≡ refused 5) (length output < length (body e)) (leaves (body e) output ≡ output)
-  unfolding writing leaves
-  write-5 = record { given = here (gives 5) (less (length output) (length (body e))) none-written refl; leaves = left (lacks output (body e)) }
-    where
-      left : (t : Bool) → cond t (refused 5) (wrote (length (body e))) ≡ refused 5 → cond t output (over (body e) output) ≡ output
-      left true h = refl
-      left false h = absurd (written _ 5 h)
-
-  pub write-no-other : (k : ℕ) → writing (body e) output ≡ refused k → OneOf k (5 ∷ [])
+  write-among : Among IsWritten (λ o. o .output ≡ output) (5 ∷ []) (writing (body e) output)
   unfolding writing
-  write-no-other = then-one (lacks output (body e)) (gives 5) none-written .no-other
+  write-among = then-one (lacks output (body e)) (write-gives output) none-written
+
+  pub write-5 : Row (writing (body e) output .answer ≡ not-written 5) (length output < length (body e)) (writing (body e) output .output ≡ output)
+  unfolding writing
+  write-5 = record {
+    given = here (write-gives output) (less (length output) (length (body e))) none-written refl;
+    leaves = write-among .left 5;
+  }
+
+  pub write-no-other : (k : ℕ) → writing (body e) output .answer ≡ not-written k → OneOf k (5 ∷ [])
+  write-no-other = write-among .no-other

@@ -5,11 +5,12 @@ use mathlib.Core.Logic.{_↔_, _≢_, _⊎_}
 use mathlib.Core.Path.{_≡_}
 use lib.ListN.{length}
 use Rattle.fields.specs.Endian.{Bytes, bigEndian}
+use Rattle.fields.specs.Writing.{writing}
+use Rattle.fields.specs.Writing.{refused as not-written}
 use Rattle.user_control.specs.declared.UserControlEvent.{UserControlEvent}
 use Rattle.user_control.specs.Answer.{refused as no-body}
 use Rattle.user_control.specs.Body.{body}
 use Rattle.user_control.specs.Reading.{reading}
-use Rattle.user_control.specs.Writing.{leaves, writing}
 use Rattle.serializer.specs.declared.ChunkSerializer.{ChunkSerializer}
 use Rattle.serializer.specs.declared.format.Message.{Message}
 use Rattle.serializer.specs.Answer.{refused as no-packet}
@@ -44,7 +45,7 @@ sizePacket s size time = packetOf s (sizeMessage time) (bigEndian 4 size)
 
 -- .. at the bodies' ..
 abbrev pub WriteBody : ℕ → (UserControlEvent → List ℕ → Type 0) → Type 0
-WriteBody k Holds = (e : UserControlEvent) (output : List ℕ) → Row (writing (body e) output ≡ no-body k) (Holds e output) (leaves (body e) output ≡ output)
+WriteBody k Holds = (e : UserControlEvent) (output : List ℕ) → Row (writing (body e) output .answer ≡ not-written k) (Holds e output) (writing (body e) output .output ≡ output)
 
 abbrev pub ReadBody : ℕ → (List ℕ → Type 0) → Type 0
 ReadBody k Holds = (bytes : List ℕ) → reading bytes ≡ no-body k ↔ Holds bytes
@@ -139,7 +140,7 @@ pub record NoOther : Type 0 where
   pub packet-length : (s : ChunkSerializer) (m : Message) (payload : List ℕ) (k : ℕ) → needed s m payload ≡ no-packet k → OneOf k (1 ∷ 2 ∷ [])
   pub change-size : (s : ChunkSerializer) (size time : ℕ) (output : List ℕ) (k : ℕ) → sizeChanged s size time output .answer ≡ no-packet k
       → OneOf k (3 ∷ 4 ∷ 5 ∷ [])
-  pub write-body : (e : UserControlEvent) (output : List ℕ) (k : ℕ) → writing (body e) output ≡ no-body k → OneOf k (5 ∷ [])
+  pub write-body : (e : UserControlEvent) (output : List ℕ) (k : ℕ) → writing (body e) output .answer ≡ not-written k → OneOf k (5 ∷ [])
   pub read-body : (bytes : List ℕ) (k : ℕ) → reading bytes ≡ no-body k → OneOf k (15 ∷ 16 ∷ [])
   pub new : (room k : ℕ) → made room .answer ≡ no-size k → OneOf k (6 ∷ [])
   pub tell-size : (start : ChunkDeserializer) (bytes : List ℕ) (d : ChunkDeserializer) → Open start bytes d → (size k : ℕ) → told d size .answer ≡ no-size k

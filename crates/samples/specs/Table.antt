@@ -6,7 +6,7 @@ use Rattle.chunk_header.specs.declared.Csid.{Csid}
 use Rattle.chunk_header.specs.declared.Csid.the-variants.{Id, Incomplete}
 use Rattle.chunk_header.specs.Basic.{csid}
 use Rattle.user_control.specs.declared.UserControlEvent.the-variants.{SetBufferLength}
-use Rattle.user_control.specs.Answer.{Answer, event, wrote, refused}
+use Rattle.user_control.specs.Answer.{Answer, event, refused}
 use Rattle.user_control.specs.Body.{body}
 use Rattle.user_control.specs.Reading.{reading}
 use Rattle.samples.specs.Decoded.{decoded}
@@ -18,7 +18,6 @@ use Rattle.samples.specs.Worked.{audio, video, sizes, firstBytes}
 -- the values of an answer, in their order
 abbrev values : Answer → List ℕ
 values (event code numbers) = code ∷ numbers
-values (wrote count) = count ∷ []
 values (refused number) = number ∷ []
 
 abbrev id : Csid → List ℕ

@@ -4,6 +4,7 @@ use crate::events::put_event;
 use crate::order::put_order;
 use crate::output::end_answer;
 use crate::state::State;
+use crate::stored::put_settings;
 use script_calls::Outcome;
 use script_text::put;
 use script_text::put_hex;
@@ -46,6 +47,7 @@ fn put_outcome(
         Outcome::Compared(distance) => put_order(text, filled, distance),
         Outcome::Distance(distance) => put_signed(text, filled, distance),
         Outcome::Event(event) => put_event(text, filled, event),
+        Outcome::Settings { settings, used } => put_settings(text, filled, settings, used),
         Outcome::Decoded(answer) => put_decoded(text, filled, answer, payload),
         _ => filled,
     }

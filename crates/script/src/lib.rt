@@ -8,6 +8,7 @@ mod lines;
 mod order;
 mod output;
 mod state;
+mod stored;
 mod turns;
 
 // What is read: the unfinished line that is kept, of up to 262144 bytes, and at least as many more.

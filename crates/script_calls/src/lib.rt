@@ -6,6 +6,7 @@ mod dec_calls;
 mod enc_calls;
 mod kept;
 mod outcomes;
+mod settings_calls;
 mod time_calls;
 
 pub use crate::calls::LONGEST_LINE;

@@ -1,5 +1,6 @@
 // What becomes of a line.
 use deserializer::Answer;
+use settings::Settings;
 use user_control::UserControlEvent;
 
 // What a line answers. Bytes that were written stand at the start of the output, and a payload at the
@@ -18,5 +19,7 @@ pub enum Outcome {
     Compared(i64),
     Distance(i64),
     Event(UserControlEvent),
+    // what a record says, and how many bytes it has
+    Settings { settings: Settings, used: usize },
     Decoded(Answer),
 }

@@ -2,4 +2,3 @@ pub mod Codes
 pub mod Reading
 pub mod RoundTrip
 pub mod Unique
-pub mod Writing

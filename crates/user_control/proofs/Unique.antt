@@ -6,6 +6,8 @@ use mathlib.Core.List.{List}
 use lib.Dec.{eqb}
 use lib.ListN.{getD}
 use Rattle.fields.specs.Deciding.{Decides}
+use Rattle.fields.specs.Writing.{Wrote, wrote}
+use Rattle.fields.specs.Writing.{refused as not-written}
 use Rattle.fields.proofs.Deciding.{told-decides}
 use Rattle.user_control.specs.declared.UserControlEvent.{UserControlEvent}
 use Rattle.user_control.specs.declared.UserControlEvent.the-variants.{
@@ -23,7 +25,7 @@ use Rattle.user_control.specs.declared.Deserialized.{Deserialized}
 use Rattle.user_control.specs.declared.Deserialized.the-variants.{Event, BodyTooShort, UnknownCode}
 use Rattle.user_control.specs.declared.Serialized.{Serialized}
 use Rattle.user_control.specs.declared.Serialized.the-variants.{Written, OutputTooShort}
-use Rattle.user_control.specs.Answer.{Answer, event, wrote, refused, readAnswer, writeAnswer}
+use Rattle.user_control.specs.Answer.{Answer, event, refused, readAnswer, writeAnswer}
 
 -- the event of a code and its numbers
 abbrev told : ℕ → List ℕ → UserControlEvent
@@ -41,7 +43,6 @@ told c ns =
 
 abbrev read : Answer → Deserialized
 read (event c ns) = Event (told c ns)
-read (wrote n) = UnknownCode
 read (refused k) = cond (eqb k 15) BodyTooShort UnknownCode
 
 told-read : (e : UserControlEvent) → read (readAnswer (Event e)) ≡ Event e
@@ -64,10 +65,9 @@ pub read-decides : Decides readAnswer
 read-decides = told-decides readAnswer read read-back
 
 -- what was written
-abbrev written : Answer → Serialized
-written (event c ns) = OutputTooShort
+abbrev written : Wrote → Serialized
 written (wrote n) = Written n
-written (refused k) = OutputTooShort
+written (not-written k) = OutputTooShort
 
 written-back : (r : Serialized) → written (writeAnswer r) ≡ r
 written-back (Written n) = refl

@@ -1,4 +1,3 @@
 pub mod Body
 pub mod Answer
 pub mod Reading
-pub mod Writing

@@ -1,9 +1,9 @@
 // The bodies of user control messages (messages/types/user_control.rs of rml_rtmp).
 ghost use mathlib.Core.Path.{_≡_};
-ghost use Rattle.user_control.specs.Answer.{readAnswer};
+ghost use Rattle.fields.specs.Writing.{outcome, writing};
+ghost use Rattle.user_control.specs.Answer.{readAnswer, writeAnswer};
 ghost use Rattle.user_control.specs.Body.{body};
 ghost use Rattle.user_control.specs.Reading.{reading};
-ghost use Rattle.user_control.specs.Writing.{Writes};
 
 mod length;
 mod write;
@@ -82,7 +82,7 @@ pub fn deserialize(bytes: &[u8]) -> Deserialized
 
 // Writes the body of `event` at the start of `output`.
 pub fn serialize(event: UserControlEvent, output: &mut [u8]) -> Serialized
-    ensures { λ r. ⌜ Writes (body event) (now (output .entry)) r (now (output .exit)) ⌝ }
+    ensures { λ r. ⌜ outcome (writeAnswer r) (now (output .exit)) ≡ writing (body event) (now (output .entry)) ⌝ }
 {
     match event {
         UserControlEvent::StreamBegin { stream_id } => write_stream_event(0, stream_id, output),

@@ -4,8 +4,8 @@ use mathlib.Core.List.{[], _∷_, _++_}
 use native.Mathlib.Omega.{arith}
 use Rattle.fields.specs.Endian.{bigEndian}
 use Rattle.fields.proofs.Lists.{stored-next}
+use Rattle.fields.proofs.Writing.{writes-none, writes-all}
 use Rattle.user_control.specs.Body.{bodyOf}
-use Rattle.user_control.proofs.Writing.{writes-none, writes-all}
 use borrow.Author.Needs.{needs}
 use Rattle.user_control.proofs.write.write_length_event.Statement.{statement}
 use Rattle.user_control.proofs.write.write_length_event.Tie as tie

@@ -1,0 +1,5 @@
+pub mod Record
+pub mod Limits
+pub mod Answer
+pub mod Reading
+pub mod Storing
