@@ -1,4 +1,6 @@
+pub mod Everywhere
 pub mod Naming
 pub mod Passing
+pub mod Putting
 pub mod RowLaws
 pub mod Table

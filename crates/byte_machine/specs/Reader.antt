@@ -1,6 +1,7 @@
 -- The reader: which field the next byte belongs to, the chunk at hand and the unfinished message; and what a byte may do to it.
 use Prim.Native.Nat.{ℕ}
-use mathlib.Core.Bool.{Bool, true, false}
+use mathlib.Core.Bool.{Bool, true, false, cond}
+use lib.Dec.{eqb}
 use Rattle.chunk_header.specs.declared.ChunkHeaderFormat.{ChunkHeaderFormat}
 use Rattle.chunk_meaning.specs.declared.Row.{Row}
 use Rattle.byte_machine.specs.declared.reader.Current.{Current}
@@ -21,6 +22,10 @@ current format place before header left = record { format = format; place = plac
 
 abbrev pub unfinished : (id got : ℕ) → Unfinished
 unfinished id got = record { id = id; got = got }
+
+-- how much of the unfinished message has come; none where there is none
+abbrev pub comeOf : Unfinished → ℕ
+comeOf m = cond (eqb (m .id) 0) 0 (m .got)
 
 -- the reader at another stage; with another header
 abbrev pub at : Reader → Stage → Reader

@@ -2,6 +2,7 @@
 use Prim.Native.Nat.{ℕ, zero, suc, _+_, _*_, _%_}
 use mathlib.Core.Bool.{cond}
 use mathlib.Core.List.{List, [], _∷_}
+use mathlib.Core.Option.{Option, none, some}
 use lib.Dec.{ltb, eqb}
 use lib.ListN.{getD}
 use lib.Seq.{sets}
@@ -48,3 +49,17 @@ free rows = find rows 0
 -- the row at a place; an empty one where the table has none there
 abbrev pub rowOrEmpty : (rows : List ℕ) → (place : ℕ) → Row
 rowOrEmpty rows place = cond (ltb place rowCount) (rowAt rows place) (claimed 0)
+
+-- the row of a stream, where it has one
+abbrev pub ownRow : (rows : List ℕ) → (id : ℕ) → Option Row
+ownRow rows id = cond (ltb (find rows id) rowCount) (some (rowAt rows (find rows id))) none
+
+-- the table after a chunk of a stream: its row in its own place, or in the first free one, which it claims
+abbrev pub claimedIn : (rows : List ℕ) → (id : ℕ) → List ℕ
+claimedIn rows id = cond (ltb (find rows id) rowCount) rows (putRow rows (free rows) (claimed id))
+
+abbrev pub placeOf : (rows : List ℕ) → (id : ℕ) → ℕ
+placeOf rows id = cond (ltb (find rows id) rowCount) (find rows id) (free rows)
+
+abbrev pub putOwn : (rows : List ℕ) → (id : ℕ) → Row → List ℕ
+putOwn rows id r = putAt (claimedIn rows id) (placeOf rows id) r

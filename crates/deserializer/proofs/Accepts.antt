@@ -2,7 +2,7 @@
 use Prim.Native.Nat.{ℕ, _+_, _≤_, _<_}
 use mathlib.Core.Path.{_≡_, refl, sym, _∙_}
 use mathlib.Core.Logic.{_≢_}
-use mathlib.Core.Bool.{Bool, true, false, not}
+use mathlib.Core.Bool.{Bool, true, false}
 use mathlib.Core.List.{List, _++_}
 use native.Mathlib.Omega.{arith}
 use lib.Dec.{ltb, eqb}
@@ -59,7 +59,7 @@ empty-length type3 r e = refl
 
 module _ (d : ChunkDeserializer) (c : Chunk) (reached : Reached d) (k : basicRefused d c ≡ 0) where
   -- inside a message its own stream goes on, and that has a row
-  own-stream : d .reader .message .id ≢ 0 → (d .reader .message .id ≡ c .id) × (isFull (formatFor (c .header)) ≡ false → isEmpty (formatFor (c .header)) ≡ true)
+  pub own-stream : d .reader .message .id ≢ 0 → (d .reader .message .id ≡ c .id) × (isFull (formatFor (c .header)) ≡ false → isEmpty (formatFor (c .header)) ≡ true)
   own-stream m =
       let e : inside d c ≡ true = rw (ne-eqb (d .reader .message .id) 0 m) in
       let t = inside-tells (formatFor (c .header)) (ltb (find (d .rows) (c .id)) 64) (ltb (free (d .rows)) 64) (eqb (d .reader .message .id) (c .id)) (rw e at k) in
@@ -78,7 +78,7 @@ module _ (d : ChunkDeserializer) (c : Chunk) (reached : Reached d) (k : basicRef
 
   module _ (j : headerRefused d c ≡ 0) where
     -- inside a message the chunk says its length, which is more than what has come and fits the room
-    length-inside : d .reader .message .id ≢ 0 → (d .reader .message .got < header d c .«message_length») × (header d c .«message_length» ≤ d .room)
+    pub length-inside : d .reader .message .id ≢ 0 → (d .reader .message .got < header d c .«message_length») × (header d c .«message_length» ≤ d .room)
     length-inside m =
         let o = own-stream m in
         let h : find (d .rows) (c .id) < 64 = rw (o .0) at (reached .sound .begun m) in

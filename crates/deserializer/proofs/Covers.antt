@@ -230,13 +230,13 @@ pub data Begins (p a : List ℕ) : Type 0 where
   -- a is a proper part of the beginning of p
   part : (b : ℕ) (tail : List ℕ) → p ≡ a ++ (b ∷ tail) → Begins p a
 
-heads : {x y : ℕ} {xs ys : List ℕ} → _≡_ {A = List ℕ} (x ∷ xs) (y ∷ ys) → x ≡ y
+pub heads : {x y : ℕ} {xs ys : List ℕ} → _≡_ {A = List ℕ} (x ∷ xs) (y ∷ ys) → x ≡ y
 heads h = cc
 
-tails : {x y : ℕ} {xs ys : List ℕ} → _≡_ {A = List ℕ} (x ∷ xs) (y ∷ ys) → xs ≡ ys
+pub tails : {x y : ℕ} {xs ys : List ℕ} → _≡_ {A = List ℕ} (x ∷ xs) (y ∷ ys) → xs ≡ ys
 tails h = cc
 
-compared : (p a r z : List ℕ) → p ++ r ≡ a ++ z → Begins p a
+pub compared : (p a r z : List ℕ) → p ++ r ≡ a ++ z → Begins p a
 compared [] a r z h = whole a refl
 compared (x ∷ p) [] r z h = part x p refl
 compared (x ∷ p) (y ∷ a) r z h = next (compared p a r z (tails h))

@@ -2,6 +2,7 @@ pub mod Accepts
 pub mod Closing
 pub mod Covers
 pub mod Cut
+pub mod Entries
 pub mod Fields
 pub mod Fitting
 pub mod FurtherOn
@@ -14,6 +15,7 @@ pub mod Reading
 pub mod ReadsBack
 pub mod Runs
 pub mod Sound
+pub mod Standing
+pub mod Taken
 pub mod Turning
 pub mod Unique
-pub mod Written

@@ -13,9 +13,9 @@ use Rattle.deserializer.specs.declared.ChunkDeserializer.{ChunkDeseriali
 use Rattle.byte_machine.specs.declared.reader.Event.{Event}
 use Rattle.byte_machine.specs.declared.reader.Event.the-variants.{Go, Chunk, Message, Refuse}
 use Rattle.byte_machine.specs.declared.reader.Reader.{Reader}
-use Rattle.byte_machine.specs.Header.{lacks}
 use Rattle.byte_machine.specs.Reader.{reader}
 use Rattle.deserializer.specs.Answer.{refused}
+use Rattle.deserializer.specs.Calls.{Made, after-call, after-size, by-new}
 use Rattle.deserializer.specs.Call.{Outcome, after, closes, end, isRefusal, next, outcome, run, stepOf, writes}
 use Rattle.byte_machine.specs.Rows.{putAt}
 use Rattle.deserializer.specs.Told.{between, fresh, made, maxRoom, outcome as told-outcome, refused as no-size, sized, taken, told}
@@ -158,3 +158,9 @@ next-unguarded d input payload m s = by-cases (eqb (d .closed) 0) (ltb (length p
     by-cases true true = λ q. let e : _≡_ {A = ℕ} 7 255 = cc in omega arith
     by-cases true false = run-unguarded input d payload 0 m s
     by-cases false u = λ q. s .unguarded (cc)
+
+-- so it holds of every decoder that calls can make
+pub made-reaches : {d : ChunkDeserializer} → Made d → Reached d
+made-reaches (by-new room) = made-reached room
+made-reaches (after-call {d} m input buffer) = next-reached d input buffer (made-reaches m)
+made-reaches (after-size {d} m size) = told-reached d size (made-reaches m)

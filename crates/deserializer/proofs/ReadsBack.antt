@@ -20,14 +20,13 @@ use Rattle.byte_machine.specs.declared.reader.Stage.{Stage}
 use Rattle.byte_machine.specs.declared.reader.Stage.the-variants.{Csid, MessagePayload}
 use Rattle.byte_machine.specs.declared.reader.Stepped.{Stepped}
 use Rattle.deserializer.specs.Call.{after, isRefusal, run}
-use Rattle.deserializer.specs.Chunk.{ChunkFits, HeadFits, basicRefused, formatFor, got, header, headerRefused, inside, left, placeOf, row, says, stored}
+use Rattle.deserializer.specs.Chunk.{ChunkFits, HeadFits, basicRefused, formatFor, got, header, headerRefused, inside, left, row, says, stored}
 use Rattle.byte_machine.specs.Payload.{landed}
 use Rattle.byte_machine.specs.Step.{named}
 use Rattle.byte_machine.specs.Header.{opens, timestampNext, whole}
 use Rattle.byte_machine.specs.Reader.{at, current, ended, go, reader, refuse, unfinished}
 use Rattle.chunk_meaning.specs.Meaning.{firstRefusal, laterRefusal}
-use Rattle.chunk_meaning.specs.Stored.{claimed}
-use Rattle.byte_machine.specs.Rows.{find, free, putRow}
+use Rattle.byte_machine.specs.Rows.{claimedIn, find, free, placeOf}
 use Rattle.chunk_meaning.proofs.Unrefused.{has-free}
 use Rattle.deserializer.proofs.Fields.{Reaches}
 use Rattle.deserializer.proofs.Identifying.{basic-read}
@@ -42,7 +41,7 @@ claiming d id = record {
   «max_chunk_size» = d .«max_chunk_size»;
   closed = d .closed;
   reader = d .reader;
-  rows = cond (ltb (find (d .rows) id) 64) (d .rows) (putRow (d .rows) (free (d .rows)) (claimed id));
+  rows = claimedIn (d .rows) id;
 }
 
 -- the parts of a chunk before its payload

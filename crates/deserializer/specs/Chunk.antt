@@ -39,10 +39,7 @@ abbrev pub ExtendedFits : Extended → Row → Type 0
 ExtendedFits absent row = row .«timestamp_field» ≢ maxField
 ExtendedFits (present time) row = (row .«timestamp_field» ≡ maxField) × (time < 2 ^ 32)
 
--- the place of a stream's row, and that row: its own, or the first free one, just claimed
-abbrev pub placeOf : (rows : List ℕ) → (id : ℕ) → ℕ
-placeOf rows id = cond (ltb (find rows id) rowCount) (find rows id) (free rows)
-
+-- the row of a stream: its own, or one just claimed
 abbrev pub rowOf : (rows : List ℕ) → (id : ℕ) → Row
 rowOf rows id = cond (ltb (find rows id) rowCount) (rowAt rows (find rows id)) (claimed id)
 

@@ -3,6 +3,8 @@ pub mod Chunk
 pub mod Call
 pub mod Told
 pub mod Answer
+-- the decoders that calls make
+pub mod Calls
 -- what the private functions of the core ensure
 pub mod Turn
 pub mod Head

@@ -7,7 +7,7 @@ use mathlib.Core.Bool.{Bool, true, false, cond}
 use lib.Dec.{leb}
 use native.Mathlib.Nat.{add-assoc, add-zero, add-suc, suc-add}
 use lib.ListN.{length, take, drop, set, length-append, length-take, length-drop, drop-of-length-le}
-use lib.Seq.{length-take-le, length-sets, sets, sets-eq, take-at, drop-append-add, drop-drop, getD-drop}
+use lib.Seq.{length-take-le, length-sets, sets, sets-eq, take-append-seam, take-at, drop-append-add, drop-drop, getD-drop}
 use borrow.Author.Tests.{le-leb, lt-leb}
 use Rattle.fields.specs.Endian.{bigEndian, number, Bytes}
 use Rattle.fields.specs.Output.{Adds, over, stored}
@@ -41,6 +41,12 @@ stored-nil out at = go (leb (at + 0) (length out))
 pub sets-append : (l : List ℕ) (i : ℕ) (xs ys : List ℕ) → sets (sets l i xs) (i + length xs) ys ≡ sets l i (xs ++ ys)
 sets-append l i [] ys = rw add-zero
 sets-append l i (x ∷ xs) ys = rw (add-suc, ← suc-add) (sets-append (set l i x) (suc i) xs ys)
+
+-- the first elements, up to the end of a run of stores
+pub sets-front : (l xs : List ℕ) (i : ℕ) → i + length xs ≤ length l → take (i + length xs) (sets l i xs) ≡ take i l ++ xs
+sets-front l xs i h =
+    let n : length (take i l ++ xs) ≡ i + length xs = length-append (take i l) xs ∙ rw (length-take-le i l (omega (arith, h))) in
+    rw (sets-eq xs l i h, ← n) (take-append-seam (take i l ++ xs) _)
 
 -- two runs, the second straight after the first
 pub stored-append : (out xs ys : List ℕ) (at next : ℕ) → next ≡ at + length xs → next + length ys ≤ length out

@@ -17,7 +17,8 @@ use Rattle.user_control.specs.Body.{body}
 use Rattle.user_control.specs.Reading.{bodyLength, codeIn, count, known, numbersIn, reading, short}
 use Rattle.refusal_table.specs.Conditions.{fifteen, sixteen}
 use Rattle.refusal_table.specs.Terms.{OneOf, Row, _unless_}
-use Rattle.refusal_table.proofs.Deciding.{Among, Decides, Gives, both, here, in-words, later, less, listed, no-refusal, not-decides, one-of, then-one}
+use Rattle.fields.proofs.Tests.{Decides, both, in-words, less, not-decides, one-of}
+use Rattle.refusal_table.proofs.Deciding.{Among, Gives, here, later, listed, no-refusal, then-one}
 
 -- an answer that is no refusal, and one that is
 read : (c : ℕ) (ns : List ℕ) (k : ℕ) → event c ns ≢ refused k

@@ -1,152 +1,212 @@
--- The rows of a call: by cutting, it is the end of one run over all bytes since the decoder's start, and that run is traced to a chunk.
-use Prim.Native.Nat.{ℕ, _+_, _-_, _≤_, _<_}
+-- The rows of a call: before the byte that is refused more is wanted, so what came is read in one way, and that byte settles the chunk at hand.
+use Prim.Native.Nat.{ℕ, suc, _+_, _-_, _≤_, _<_}
 use mathlib.Core.Bool.{Bool, true, false}
 use mathlib.Core.List.{List, [], _∷_, _++_, append-assoc}
 use mathlib.Core.Logic.{_≢_, _⊎_, inl, inr, ⊎-elim}
-use mathlib.Core.Path.{_≡_, refl, sym, ap, _∙_}
+use mathlib.Core.Path.{_≡_, refl, sym, ap, subst, _∙_}
+use native.Mathlib.Nat.{zero-add}
 use native.Mathlib.Omega.{arith}
 use lib.Dec.{ltb}
-use lib.Seq.{take-append-add, take-at}
-use lib.ListN.{drop, length, length-append, length-take, take, take-append-drop}
+use lib.ListN.{drop, getD, length, take, take-append-drop}
+use lib.Seq.{drop-cons, take-suc}
 use borrow.Author.Tests.{ltb-false, ltb-true}
 use Rattle.fields.specs.Endian.{Bytes}
+use Rattle.fields.proofs.Lists.{bytes-take}
 use Rattle.chunk_header.specs.Layout.{Chunk}
 use Rattle.deserializer.specs.declared.ChunkDeserializer.{ChunkDeserializer}
-use Rattle.byte_machine.specs.declared.reader.Stage.the-variants.{Csid}
-use Rattle.deserializer.specs.Answer.{Listed, message, more, refused}
-use Rattle.deserializer.specs.Call.{Outcome, next, outcome, run}
-use Rattle.deserializer.specs.Told.{between}
-use Rattle.byte_machine.specs.Reader.{atStart}
+use Rattle.deserializer.specs.Answer.{more, refused}
+use Rattle.deserializer.specs.Call.{Outcome, next, run}
 use Rattle.deserializer.proofs.Covers.{bytes-append}
-use Rattle.deserializer.proofs.Cut.{refused-not-more, shift}
-use Rattle.deserializer.proofs.Heading.{starts}
+use Rattle.deserializer.proofs.Cut.{feed-answered, feed-append, has-run, refused-not-more, run-kept, shift}
 use Rattle.deserializer.proofs.Progress.{run-uses}
 use Rattle.deserializer.proofs.Runs.{next-runs, next-short}
-use Rattle.refusal_table.specs.History.{Closed, Open, Settled}
-use Rattle.refusal_table.specs.Table.{Call, CallAt, InsideMeans}
+use Rattle.stream_meaning.specs.Connection.{AllFit, Item, streams}
+use Rattle.stream_meaning.specs.Feeding.{Sign, byte, signs, signsOf}
+use Rattle.stream_meaning.specs.Stream.{HeadFits}
+use Rattle.stream_meaning.proofs.Connecting.{signs-append}
+use Rattle.refusal_table.specs.History.{Closed, Open, Settled, wanted}
+use Rattle.refusal_table.specs.Table.{Call, CallAt}
 use Rattle.refusal_table.specs.Terms.{OneOf}
-use Rattle.refusal_table.proofs.Closes.{closed-at}
-use Rattle.refusal_table.proofs.Coming.{comes, head-fits}
-use Rattle.refusal_table.proofs.Deciding.{both, equal, itself, listed, not-decides, same}
-use Rattle.refusal_table.proofs.Fates.{refused-at}
-use Rattle.refusal_table.proofs.Opened.{Opened, follows, from, is-open, opened-of, same-room, stands}
-use Rattle.refusal_table.proofs.Settling.{Settles, numbers}
-use Rattle.refusal_table.proofs.Standing.{refused-not-message}
-use Rattle.refusal_table.proofs.Tracing.{Traced, taken-led, traces}
-
--- a refusal whose bytes are counted from elsewhere
-counted : (o : Outcome) (a k n : ℕ) → shift a o .answer ≡ refused k (a + n) → o .answer ≡ refused k n
-counted o a k n = by-answer (o .answer) refl
-  where
-    by-answer : (l : Listed) → o .answer ≡ l → shift a (outcome l (o .deserializer) (o .payload)) .answer ≡ refused k (a + n) → o .answer ≡ refused k n
-    by-answer (message type stream time long used) e h = refused-not-message (sym h)
-    by-answer (more used) e h = refused-not-more (sym h)
-    by-answer (refused j used) e h =
-        let i : j ≡ k = cc in
-        let l : a + used ≡ a + n = cc in
-        let u : used ≡ n = omega arith in
-        rw (e, i, u)
-
--- the beginning of some bytes and others is the beginning of the others after them
-cut-at : (a b x rest : List ℕ) (n : ℕ) → a ++ b ≡ x ++ rest → length a + n ≡ length x → a ++ take n b ≡ x
-cut-at a b x rest n h l = sym (take-append-add a b n) ∙ ap (take (length a + n)) h ∙ take-at x rest (length a + n) (sym l)
-
--- a decoder that stands between messages stands between chunks
-starts-between : {start : ChunkDeserializer} {bytes : List ℕ} {d : ChunkDeserializer} → Opened start bytes d → start .reader .stage ≡ Csid
-starts-between {start} o = starts (start .reader .stage) (rw (both (itself (atStart (start .reader .stage))) (itself _) .yes (o .starts) .0))
+use Rattle.refusal_table.proofs.Closes.{ClosedAt, closed-at}
+use Rattle.refusal_table.proofs.Deciding.{listed}
+use Rattle.refusal_table.proofs.OneByte.{Refusal, begun-part, between, byte-same, counted, full, gives-here, last-same, one-byte, part-some, refusal, some-last}
+use Rattle.refusal_table.proofs.Opened.{Stands, amid-of, calls-same, only-reading, open-amid, stands-of}
+use Rattle.refusal_table.proofs.Settling.{At, Settles, numbers}
 
 -- a call of an open decoder with a long enough buffer
-module _ {start : ChunkDeserializer} {bytes : List ℕ} {d : ChunkDeserializer} (o : Opened start bytes d) (input payload : List ℕ)
-    (long : d .room ≤ length payload) where
-  runs : next d input payload ≡ run input d payload 0
-  runs = next-runs d input payload (is-open o) long
+module _ {came : List Sign} {d : ChunkDeserializer} (o : Open came d) (input payload : List ℕ) (are-bytes : Bytes input) where
+  is-open : d .closed ≡ 0
+  is-open = open-amid (amid-of (stands-of o)) .0
 
-  -- it is the end of one run from the start
-  in-one-run : run (bytes ++ input) start payload 0 .answer ≡ shift (0 + length bytes) (next d input payload) .answer
-  in-one-run =
-      ap (λ (o : Outcome). o .answer) (follows (o .leads) input payload 0)
-      ∙ from input d (run bytes start payload 0 .payload) payload (0 + length bytes) .answer
-      ∙ ap (λ (o : Outcome). shift (0 + length bytes) o .answer) (sym runs)
+  -- after some bytes that want more
+  module _ (m : ℕ) (inside : m < length input) (before : next d (take m input) payload .answer ≡ more m) where
+    abbrev d₁ : ChunkDeserializer
+    d₁ = next d (take m input) payload .deserializer
 
-  module _ (are-bytes : Bytes input) (k n : ℕ) (h : next d input payload .answer ≡ refused k n) where
-    traced : Traced start (bytes ++ input) 0 k (0 + length bytes + n)
-    traced =
-        traces (bytes ++ input) start payload 0 k (0 + length bytes + n)
-        (record { reached = o .reached; between = starts-between o; is-open = o .open-at-start; long = omega (arith, same-room o) })
-        (bytes-append bytes input (o .are-bytes) are-bytes)
-        (in-one-run ∙ (rw h))
+    abbrev payload₁ : List ℕ
+    payload₁ = next d (take m input) payload .payload
+
+    abbrev x : ℕ
+    x = getD input m 0
+
+    o₁ : Open (came ++ signs (take m input)) d₁
+    o₁ = wanted o (take m input) payload (bytes-take m input are-bytes) m before
+
+    abbrev s₁ : Stands (came ++ signs (take m input)) d₁
+    s₁ = stands-of o₁
+
+    kept : (d₁ .closed ≡ 0) × ((d₁ .room ≡ d .room) × (length payload₁ ≡ length payload))
+    kept =
+        let h = has-run d (take m input) payload m before in
+        let e = next-runs d (take m input) payload (h .1) (h .0) in
+        let k = run-kept (take m input) d payload 0 in
+        (open-amid (amid-of s₁) .0, (ap (λ (o : Outcome). o .deserializer .room) e ∙ k .room, ap (λ (o : Outcome). length (o .payload)) e ∙ k .long))
+
+    -- the rest of the input is a call after them
+    rest-of : next d input payload ≡ shift m (next d₁ (x ∷ drop (suc m) input) payload₁)
+    rest-of =
+        ap (λ (l : List ℕ). next d l payload) (sym (take-append-drop m input))
+        ∙ feed-append d (take m input) (drop m input) payload m before
+        ∙ ap (λ (l : List ℕ). shift m (next d₁ l payload₁)) (drop-cons input m 0 inside)
+
+    -- with any long enough buffer, and whatever follows the byte
+    same-answer : (b : List ℕ) → d₁ .room ≤ length b → (k : ℕ) → next d₁ (x ∷ []) b .answer ≡ refused k 1 → next d₁ (x ∷ drop (suc m) input) payload₁ .answer ≡ refused k 1
+    same-answer b long k h =
+        let p = has-run d (take m input) payload m before in
+        let other : (j : ℕ) → next d₁ (x ∷ []) b .answer ≢ more j = λ j e. refused-not-more (sym h ∙ e) in
+        let both = feed-answered d₁ (x ∷ []) (drop (suc m) input) b other in
+        let l : d₁ .room ≤ length payload₁ = omega (arith, kept .1 .0, kept .1 .1, p .0) in
+        calls-same d₁ (x ∷ drop (suc m) input) payload₁ b (kept .0) l long .answer ∙ ap (λ (r : Outcome). r .answer) both ∙ h
+
+    -- given, where a chunk is settled by the byte
+    gives-at : (part : Chunk → List ℕ) (k : ℕ) (Holds : ℕ → List Item → Chunk → Type 0) → k ≢ 0 → Settles part k Holds
+        → (items : List Item) (c : Chunk)
+        → came ++ signs (take (suc m) input) ≡ signsOf items ++ signs (part c)
+        → AllFit items
+        → HeadFits (streams items (c .id)) c
+        → Holds (d .room) items c
+        → next d input payload .answer ≡ refused k (m + 1)
+    gives-at part k Holds nz s items c come fits can holds =
+        let q = some-last (part c) (part-some (part c) c (s .part-is c)) in
+        let y = q .1 .0 in
+        let ends : (came ++ signs (take m input)) ++ (byte x ∷ []) ≡ (signsOf items ++ signs (q .0)) ++ (byte y ∷ []) =
+        append-assoc came (signs (take m input)) (byte x ∷ [])
+        ∙ ap (λ (l : List Sign). came ++ l) (sym (signs-append (take m input) (x ∷ [])))
+        ∙ ap (λ (l : List ℕ). came ++ signs l) (sym (take-suc input m 0 inside))
+        ∙ come
+        ∙ ap (λ (l : List ℕ). signsOf items ++ signs l) (q .1 .1)
+        ∙ ap (λ (l : List Sign). signsOf items ++ l) (signs-append (q .0) (y ∷ []))
+        ∙ sym (append-assoc (signsOf items) (signs (q .0)) (byte y ∷ []))
+        in
+        let last = last-same (came ++ signs (take m input)) (signsOf items ++ signs (q .0)) (byte x) (byte y) ends in
+        let xy : x ≡ y = byte-same (last .1) in
+        let begun = begun-part items c (part c) (s .part-is c) (q .0) y (q .1 .1) can in
+        let only = only-reading s₁ (record { items = items; part = q .0; is = last .0; fits = fits; begun = begun }) in
+        let a = amid-of s₁ in
+        let same : part c ≡ full a x = q .1 .1 ∙ (rw (sym (only .1), sym xy)) in
+        let room : d .room ≡ a .decoder .room = sym (kept .1 .0) ∙ open-amid a .1 .1 in
+        let can′ = subst (λ (l : List Item). HeadFits (streams l (c .id)) c) (sym (only .0)) can in
+        let holds′ = subst (λ (l : List Item). Holds (a .decoder .room) l c) (sym (only .0)) (subst (λ (r : ℕ). Holds r items c) room holds) in
+        let at = subst (λ (l : List ℕ). At (a .decoder) c k l) same (s .settles (between a x) c can′ holds′) in
+        let here = gives-here a x k c nz can′ at in
+        ap (λ (o : Outcome). o .answer) rest-of ∙ (rw (same-answer (s₁ .buffer) (open-amid a .1 .0) k here))
+
+  -- a call that is refused by bytes
+  module _ (long : d .room ≤ length payload) (k n : ℕ) (h : next d input payload .answer ≡ refused k n) where
+    runs : next d input payload ≡ run input d payload 0
+    runs = next-runs d input payload is-open long
+
+    cut : ClosedAt input d payload 0 k n
+    cut = closed-at input d payload 0 k n (rw runs at h)
+
+    others-is : n - 1 ≡ cut .others
+    others-is = omega (arith, cut .used)
+
+    wants : next d (take (cut .others) input) payload .answer ≡ more (cut .others)
+    wants = ap (λ (o : Outcome). o .answer) (next-runs d (take (cut .others) input) payload is-open long) ∙ cut .wants ∙ ap more (zero-add (cut .others))
 
     within : n ≤ length input
     within =
         let u : n ≤ 0 + length input = rw h at (rw (← runs) at (run-uses input d payload 0 .most)) in
         omega (arith, u)
 
-    -- given: the chunk is there
-    settled : (part : Chunk → List ℕ) (Holds : ChunkDeserializer → Chunk → Type 0) → Settles part k Holds → Settled part Holds start bytes input n
-    settled part Holds s =
-        let t = traced in
-        let r = t .refusal in
-        let q = s .tells (t .decoder) (r .chunk) (r .reached) (r .fits) (r .part) (r .at) in
-        let l : length bytes + n ≡ length (t .earlier ++ r .part) = simp length-append (omega (arith, t .used)) in
-        let c = cut-at bytes input (t .earlier ++ r .part) (t .rest) n (t .is ∙ sym (append-assoc (t .earlier) (r .part) (t .rest))) l in
-        record {
-          earlier = t .earlier;
-          decoder = t .decoder;
-          chunk = r .chunk;
-          taken-before = t .taken-before;
-          can-come = comes (r .reached) (r .fits);
-          come = c ∙ ap (λ (l : List ℕ). t .earlier ++ l) (q .1);
-          within = within;
-          holds = q .0;
-        }
+    abbrev m : ℕ
+    m = cut .others
+
+    inside : m < length input
+    inside = omega (arith, within, cut .used)
 
     -- "closed": the byte that settles it only closes
     closed : Closed k d input payload n
     closed =
-        let c = closed-at input d payload 0 k n (rw runs at h) in
-        let e : n - 1 ≡ c .others = omega (arith, c .used) in
-        let f = next-runs d (take (n - 1) input) payload (is-open o) long ∙ ap (λ (i : ℕ). run (take i input) d payload 0) e in
-        record { closes = rw (runs, f) (ap (λ (o : Outcome). o .deserializer) (c .closes)); stays = rw (runs, f) (ap (λ (o : Outcome). o .payload) (c .closes)) }
+        let f = next-runs d (take (n - 1) input) payload is-open long ∙ ap (λ (i : ℕ). run (take i input) d payload 0) others-is in
+        record { closes = rw (runs, f) (ap (λ (o : Outcome). o .deserializer) (cut .closes)); stays = rw (runs, f) (ap (λ (o : Outcome). o .payload) (cut .closes)) }
+
+    -- the byte, after the others
+    byte-refused : next (d₁ m inside wants) (x m inside wants ∷ []) (s₁ m inside wants .buffer) .answer ≡ refused k 1
+    byte-refused =
+        let a = amid-of (s₁ m inside wants) in
+        let e : next d (take (suc m) input) payload .answer ≡ refused k n =
+        ap (λ (o : Outcome). o .answer) (next-runs d (take (suc m) input) payload is-open long) ∙ cut .refuses
+        in
+        let f : next d (take (suc m) input) payload ≡ shift m (next (d₁ m inside wants) (x m inside wants ∷ []) (payload₁ m inside wants)) =
+        ap (λ (l : List ℕ). next d l payload) (take-suc input m 0 inside) ∙ feed-append d (take m input) (x m inside wants ∷ []) payload m wants
+        in
+        let n-is : n ≡ m + 1 = omega (arith, cut .used) in
+        let g = counted (next (d₁ m inside wants) (x m inside wants ∷ []) (payload₁ m inside wants)) m k 1 (ap (λ (o : Outcome). o .answer) (sym f) ∙ e ∙ ap (refused k) n-is) in
+        let k₁ = kept m inside wants in
+        let l : d₁ m inside wants .room ≤ length (payload₁ m inside wants) = omega (arith, k₁ .1 .0, k₁ .1 .1, long) in
+        calls-same (d₁ m inside wants) (x m inside wants ∷ []) (s₁ m inside wants .buffer) (payload₁ m inside wants) (k₁ .0) (open-amid a .1 .0) l .answer ∙ g
+
+    its-refusal : Refusal (amid-of (s₁ m inside wants)) (x m inside wants) k byte-refused
+        (bytes-append (amid-of (s₁ m inside wants) .part-of) (x m inside wants ∷ []) (amid-of (s₁ m inside wants) .bytes) (one-byte input m are-bytes))
+    its-refusal = refusal (amid-of (s₁ m inside wants)) (x m inside wants) k byte-refused _
+
+    settled : (part : Chunk → List ℕ) (Holds : ℕ → List Item → Chunk → Type 0) → Settles part k Holds → Settled part (Holds (d .room)) came d input payload n
+    settled part Holds s =
+        let a = amid-of (s₁ m inside wants) in
+        let r = its-refusal in
+        let t = s .tells (between a (x m inside wants)) (r .chunk) (r .fits) (full a (x m inside wants)) (r .at) in
+        let room : a .decoder .room ≡ d .room = sym (open-amid a .1 .1) ∙ kept m inside wants .1 .0 in
+        let n-is : n ≡ suc m = omega (arith, cut .used) in
+        let come : came ++ signs (take (suc m) input) ≡ signsOf (a .at-start .items) ++ signs (part (r .chunk)) =
+        ap (λ (l : List ℕ). came ++ signs l) (take-suc input m 0 inside)
+        ∙ ap (λ (l : List Sign). came ++ l) (signs-append (take m input) (x m inside wants ∷ []))
+        ∙ sym (append-assoc came (signs (take m input)) (signs (x m inside wants ∷ [])))
+        ∙ ap (λ (l : List Sign). l ++ signs (x m inside wants ∷ [])) (a .came-is ∙ ap (λ (l : List Sign). l ++ signs (a .part-of)) (a .at-start .is))
+        ∙ append-assoc (signsOf (a .at-start .items)) (signs (a .part-of)) (signs (x m inside wants ∷ []))
+        ∙ ap (λ (l : List Sign). signsOf (a .at-start .items) ++ l) (sym (signs-append (a .part-of) (x m inside wants ∷ [])) ∙ ap signs (t .1))
+        in
+        record {
+          nth = (omega (arith, cut .used), within);
+          before = rw others-is wants;
+          items = a .at-start .items;
+          chunk = r .chunk;
+          come = ap (λ (i : ℕ). came ++ signs (take i input)) n-is ∙ come;
+          fits = a .at-start .fits;
+          can-come = r .fits;
+          holds = subst (λ (z : ℕ). Holds z (a .at-start .items) (r .chunk)) room (t .0);
+        }
 
     one-of-them : OneOf k (9 ∷ 10 ∷ 11 ∷ 12 ∷ 13 ∷ 14 ∷ [])
-    one-of-them = let r = traced .refusal in numbers _ (r .chunk) k (r .part) (r .reached) (r .fits) (r .refuses) (r .at)
+    one-of-them =
+        let r = its-refusal in
+        numbers (between (amid-of (s₁ m inside wants)) (x m inside wants)) (r .chunk) (r .fits) k _ (r .some) (r .at)
 
   -- given, where the chunk is there
-  gives : (part : Chunk → List ℕ) (k : ℕ) (Holds : ChunkDeserializer → Chunk → Type 0) (n : ℕ) → k ≢ 0 → Settles part k Holds
-      → Settled part Holds start bytes input n
+  gives : (part : Chunk → List ℕ) (k : ℕ) (Holds : ℕ → List Item → Chunk → Type 0) (n : ℕ) → k ≢ 0 → Settles part k Holds
+      → Settled part (Holds (d .room)) came d input payload n
       → next d input payload .answer ≡ refused k n
   gives part k Holds n nz s t =
-      let led = taken-led (t .taken-before) (o .reached) (starts-between o) (o .open-at-start) in
-      let fits = head-fits (led .reached) (t .can-come) in
-      let p = part (t .chunk) in
-      let x = t .earlier in
-      let rest = drop n input in
-      let joined : bytes ++ input ≡ x ++ (p ++ rest) =
-      ap (λ (l : List ℕ). bytes ++ l) (sym (take-append-drop n input)) ∙ sym (append-assoc bytes (take n input) rest) ∙ ap (λ (l : List ℕ). l ++ rest) (t .come)
-      ∙ append-assoc x p rest
-      in
-      let answer : run (bytes ++ input) start payload 0 .answer ≡ refused k (0 + length x + length p) =
-      ap (λ (l : List ℕ). run l start payload 0 .answer) joined
-      ∙ ap (λ (o : Outcome). o .answer) (follows (led .leads) (p ++ rest) payload 0)
-      ∙ refused-at (led .reached) (led .between) fits nz (s .settles (t .decoder) (t .chunk) (led .reached) fits (t .holds)) (run x start payload 0 .payload)
-      (0 + length x) rest
-      in
-      let l : 0 + length x + length p ≡ 0 + length bytes + n =
-      omega (arith, ap length (t .come), length-append bytes (take n input), length-append x p, length-take n input, t .within)
-      in
-      counted (next d input payload) (0 + length bytes) k n (sym in-one-run ∙ answer ∙ ap (refused k) l)
+      let e : n ≡ n - 1 + 1 = omega (arith, t .nth .0) in
+      let f : suc (n - 1) ≡ n = omega (arith, t .nth .0) in
+      let i : n - 1 < length input = omega (arith, t .nth .0, t .nth .1) in
+      gives-at (n - 1) i (t .before) part k Holds nz s (t .items) (t .chunk) (ap (λ (j : ℕ). came ++ signs (take j input)) f ∙ t .come) (t .fits) (t .can-come) (t .holds)
+      ∙ ap (refused k) (sym e)
 
--- inside a message, after whole chunks of it
-pub inside-means : InsideMeans
-inside-means start bytes d h₀ earlier decoder t =
-    let o = opened-of h₀ in
-    let led = taken-led t (o .reached) (starts-between o) (o .open-at-start) in
-    same (not-decides (equal (decoder .reader .message .id) 0)) (rw (led .between) at (stands (o .reached) (o .starts) (led .leads)))
-
--- what is refused is 7, or the buffer is long enough
-module _ {start : ChunkDeserializer} {bytes : List ℕ} {d : ChunkDeserializer} (o : Opened start bytes d) (input payload : List ℕ) where
+  -- what is refused is 7, or the buffer is long enough
   is-seven : length payload < d .room → next d input payload .answer ≡ refused 7 0
-  is-seven s = ap (λ (o : Outcome). o .answer) (next-short d input payload (is-open o) s)
+  is-seven s = ap (λ (o : Outcome). o .answer) (next-short d input payload is-open s)
 
   seven-or-long : (k n : ℕ) → next d input payload .answer ≡ refused k n → ((k ≡ 7) × (n ≡ 0) × (length payload < d .room)) ⊎ (d .room ≤ length payload)
   seven-or-long k n h = by-length (ltb (length payload) (d .room)) refl
@@ -159,35 +219,29 @@ module _ {start : ChunkDeserializer} {bytes : List ℕ} {d : ChunkDeserializer} 
       by-length false e = inr (ltb-false (length payload) (d .room) e)
 
 pub call-7 : Call 7 (λ d payload. length payload < d .room)
-call-7 start bytes d h₀ input payload b n =
-    let o = opened-of h₀ in
+call-7 came d o input payload b n =
     let tells : next d input payload .answer ≡ refused 7 n → (length payload < d .room) × (n ≡ 0) = λ h.
-    ⊎-elim (λ s. (s .2, s .1)) (λ l. absurd (listed 7 (9 ∷ 10 ∷ 11 ∷ 12 ∷ 13 ∷ 14 ∷ []) .no refl (one-of-them o input payload l b 7 n h)))
-    (seven-or-long o input payload 7 n h)
+    ⊎-elim (λ s. (s .2, s .1)) (λ l. absurd (listed 7 (9 ∷ 10 ∷ 11 ∷ 12 ∷ 13 ∷ 14 ∷ []) .no refl (one-of-them o input payload b l 7 n h)))
+    (seven-or-long o input payload b 7 n h)
     in
     record {
-      given = (tells, λ h. is-seven o input payload (h .0) ∙ ap (refused 7) (sym (h .1)));
-      leaves = λ h. next-short d input payload (is-open o) (tells h .0);
+      given = (tells, λ h. is-seven o input payload b (h .0) ∙ ap (refused 7) (sym (h .1)));
+      leaves = λ h. next-short d input payload (is-open o input payload b) (tells h .0);
     }
 
 -- a number that bytes settle
-pub call-at : (part : Chunk → List ℕ) (k : ℕ) (Holds : ChunkDeserializer → Chunk → Type 0) → k ≢ 0 → k ≢ 7 → Settles part k Holds → CallAt part k Holds
-call-at part k Holds nz n7 s start bytes d h₀ input payload b n =
-    let o = opened-of h₀ in
-    let long : next d input payload .answer ≡ refused k n → d .room ≤ length payload = λ h. ⊎-elim (λ s. absurd (n7 (s .0))) (λ l. l) (seven-or-long o input payload k n h) in
+pub call-at : (part : Chunk → List ℕ) (k : ℕ) (Holds : ℕ → List Item → Chunk → Type 0) → k ≢ 0 → k ≢ 7 → Settles part k Holds → CallAt part k Holds
+call-at part k Holds nz n7 s came d o input payload b n =
+    let long : next d input payload .answer ≡ refused k n → d .room ≤ length payload = λ h. ⊎-elim (λ s. absurd (n7 (s .0))) (λ l. l) (seven-or-long o input payload b k n h) in
     record {
-      given = (
-        λ h. (settled o input payload (long h) b k n h part Holds s, λ short. let l = long h in omega arith),
-        λ h. let n = h .1 in gives o input payload (omega (arith, n)) part k Holds _ nz s (h .0),
-      );
-      leaves = λ h. closed o input payload (long h) b k n h;
+      given = (λ h. settled o input payload b (long h) k n h part Holds s, λ t. gives o input payload b part k Holds n nz s t);
+      leaves = λ h. closed o input payload b (long h) k n h;
     }
 
 -- any other number than 7 is one of six, and closes
-pub call-refused : (start : ChunkDeserializer) (bytes : List ℕ) (d : ChunkDeserializer) → Open start bytes d → (input payload : List ℕ) → Bytes input → (k n : ℕ)
+pub call-refused : (came : List Sign) (d : ChunkDeserializer) → Open came d → (input payload : List ℕ) → Bytes input → (k n : ℕ)
     → next d input payload .answer ≡ refused k n
     → (k ≡ 7) ⊎ (OneOf k (9 ∷ 10 ∷ 11 ∷ 12 ∷ 13 ∷ 14 ∷ []) × (next d input payload .deserializer .closed ≡ k))
-call-refused start bytes d h₀ input payload b k n h =
-    let o = opened-of h₀ in
-    ⊎-elim (λ s. inl (s .0)) (λ l. inr (one-of-them o input payload l b k n h, ap (λ (d : ChunkDeserializer). d .closed) (closed o input payload l b k n h .closes)))
-    (seven-or-long o input payload k n h)
+call-refused came d o input payload b k n h =
+    ⊎-elim (λ s. inl (s .0)) (λ l. inr (one-of-them o input payload b l k n h, ap (λ (d : ChunkDeserializer). d .closed) (closed o input payload b l k n h .closes)))
+    (seven-or-long o input payload b k n h)

@@ -3,13 +3,14 @@ use Prim.Native.Nat.{ℕ, suc, _+_}
 use mathlib.Core.Bool.{Bool, true, false, cond}
 use mathlib.Core.List.{List, [], _∷_}
 use mathlib.Core.Path.{_≡_, refl, sym, ap, _∙_}
+use native.Mathlib.Nat.{add-zero}
 use native.Mathlib.Omega.{arith}
 use lib.ListN.{set, take}
 use Rattle.deserializer.specs.declared.ChunkDeserializer.{ChunkDeserializer}
 use Rattle.byte_machine.specs.declared.reader.Event.{Event}
 use Rattle.byte_machine.specs.declared.reader.Event.the-variants.{Go, Chunk, Message, Refuse}
 use Rattle.byte_machine.specs.declared.reader.Stepped.{Stepped}
-use Rattle.deserializer.specs.Answer.{refused}
+use Rattle.deserializer.specs.Answer.{more, refused}
 use Rattle.deserializer.specs.Call.{Outcome, after, end, outcome, run, stepOf, writes}
 use Rattle.byte_machine.specs.Payload.{landed, pays}
 use Rattle.byte_machine.specs.Step.{stepped}
@@ -19,7 +20,7 @@ use Rattle.deserializer.proofs.Cut.{refused-not-more}
 use Rattle.deserializer.proofs.Runs.{landed-not-refused}
 use Rattle.fields.proofs.Tests.{clash}
 use Rattle.refusal_table.specs.History.{closedWith}
-use Rattle.refusal_table.proofs.Standing.{refused-not-message}
+use Rattle.deserializer.proofs.Standing.{refused-not-message}
 
 -- payload is not refused, and no other byte is stored
 refused-stores-nothing : (d : ChunkDeserializer) (payload : List ℕ) (x k : ℕ) → stepOf d x .event ≡ Refuse k → writes d payload x ≡ payload
@@ -40,6 +41,8 @@ closedAs k m o = outcome (refused k m) (closedWith k (o .deserializer)) (o .payl
 pub record ClosedAt (a : List ℕ) (d : ChunkDeserializer) (payload : List ℕ) (n k m : ℕ) : Type 0 where
   pub others : ℕ
   pub used : m ≡ n + suc others
+  pub wants : run (take others a) d payload n .answer ≡ more (n + others)
+  pub refuses : run (take (suc others) a) d payload n .answer ≡ refused k m
   pub closes : run a d payload n ≡ closedAs k m (run (take others a) d payload n)
 
 -- by the first byte's event
@@ -53,7 +56,14 @@ module _ (x : ℕ) (a : List ℕ) (d : ChunkDeserializer) (payload : List ℕ) (
   -- it goes on, and so do the bytes before the one that is refused
   goes-closed : ((b : List ℕ) → run (x ∷ b) d payload n ≡ run b d′ payload′ (n + 1)) → ClosedAt a d′ payload′ (n + 1) k m → ClosedAt (x ∷ a) d payload n k m
   goes-closed on c =
-      record { others = suc (c .others); used = omega (arith, c .used); closes = on a ∙ c .closes ∙ ap (closedAs k m) (sym (on (take (c .others) a))) }
+      let more-on : n + 1 + c .others ≡ n + suc (c .others) = omega arith in
+      record {
+        others = suc (c .others);
+        used = omega (arith, c .used);
+        wants = ap (λ (o : Outcome). o .answer) (on (take (c .others) a)) ∙ c .wants ∙ ap more more-on;
+        refuses = ap (λ (o : Outcome). o .answer) (on (take (suc (c .others)) a)) ∙ c .refuses;
+        closes = on a ∙ c .closes ∙ ap (closedAs k m) (sym (on (take (c .others) a)));
+      }
 
   by-event : (e : Event) → stepOf d x .event ≡ e → end e d′ payload′ (n + 1) (run a d′ payload′ (n + 1)) .answer ≡ refused k m
       → (run a d′ payload′ (n + 1) .answer ≡ refused k m → ClosedAt a d′ payload′ (n + 1) k m)
@@ -65,8 +75,14 @@ module _ (x : ℕ) (a : List ℕ) (d : ChunkDeserializer) (payload : List ℕ) (
   by-event (Refuse j) is h later =
       let ek : j ≡ k = cc in
       let em : n + 1 ≡ m = cc in
-      let at-once : run (x ∷ a) d payload n ≡ outcome (refused j (n + 1)) d′ payload′ = rw is in
-      record { others = 0; used = omega (arith, em); closes = at-once ∙ (rw (refusal-only-closes d x j is, refused-stores-nothing d payload x j is, ek, em)) }
+      let at-once : (b : List ℕ) → run (x ∷ b) d payload n ≡ outcome (refused j (n + 1)) d′ payload′ = λ b. rw is in
+      record {
+        others = 0;
+        used = omega (arith, em);
+        wants = ap more (sym (add-zero n));
+        refuses = ap (λ (o : Outcome). o .answer) (at-once (take 0 a)) ∙ (rw (ek, em));
+        closes = at-once a ∙ (rw (refusal-only-closes d x j is, refused-stores-nothing d payload x j is, ek, em));
+      }
 
 pub closed-at : (a : List ℕ) (d : ChunkDeserializer) (payload : List ℕ) (n k m : ℕ) → run a d payload n .answer ≡ refused k m → ClosedAt a d payload n k m
 unfolding run

@@ -15,7 +15,8 @@ use Rattle.serializer.specs.Remembered.{packetOf}
 use Rattle.chunk_header.specs.Limits.{maxLength, maxSize}
 use Rattle.refusal_table.specs.Table.{sizePacket}
 use Rattle.refusal_table.specs.Terms.{OneOf}
-use Rattle.refusal_table.proofs.Deciding.{Among, Gives, Three, alone, equal, here, later, less, no-refusal, then-one, three}
+use Rattle.fields.proofs.Tests.{equal, less}
+use Rattle.refusal_table.proofs.Deciding.{Among, Gives, Three, alone, here, later, no-refusal, then-one, three}
 
 -- an answer that is no refusal
 written : (n k : ℕ) → wrote n ≢ refused k

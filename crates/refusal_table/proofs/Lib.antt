@@ -2,15 +2,13 @@ pub mod Bodies
 pub mod Calls
 pub mod Chunks
 pub mod Closes
-pub mod Coming
 pub mod Deciding
 pub mod Encoder
-pub mod Entries
 pub mod Fates
 pub mod Histories
+pub mod OneByte
 pub mod Opened
+pub mod Seen
 pub mod Settling
 pub mod Sizes
-pub mod Standing
 pub mod Table
-pub mod Tracing

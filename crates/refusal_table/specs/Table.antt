@@ -20,10 +20,12 @@ use Rattle.chunk_header.specs.Layout.{Chunk}
 use Rattle.deserializer.specs.declared.ChunkDeserializer.{ChunkDeserializer}
 use Rattle.deserializer.specs.Answer.{refused}
 use Rattle.deserializer.specs.Call.{next, outcome}
-use Rattle.byte_machine.specs.Rows.{rowAt}
 use Rattle.deserializer.specs.Told.{fresh, made, outcome as telling, refused as no-size, told}
-use Rattle.refusal_table.specs.Conditions.{Inside, eight, nine, ten, eleven, twelve, thirteen, fourteen, fifteen, sixteen, basic, head, headFor12, type}
-use Rattle.refusal_table.specs.History.{Closed, Made, Open, Settled, Taken}
+use Rattle.stream_meaning.specs.Connection.{Item, streams}
+use Rattle.stream_meaning.specs.Feeding.{Sign}
+use Rattle.stream_meaning.specs.Said.{saidOn}
+use Rattle.refusal_table.specs.Conditions.{eight, nine, ten, eleven, twelve, thirteen, fourteen, fifteen, sixteen, basic, head, headFor12, type}
+use Rattle.refusal_table.specs.History.{Closed, Made, Open, Read, Settled}
 use Rattle.refusal_table.specs.Terms.{OneOf, Row, _unless_}
 
 -- a number at an entry point, by the promises: at the encoder's calls, which leave "all as before, 0 bytes" ..
@@ -54,22 +56,22 @@ ReadBody k Holds = (bytes : List ℕ) → reading bytes ≡ no-body k ↔ Holds 
 abbrev pub New : ℕ → (ℕ → Type 0) → Type 0
 New k Holds = (room : ℕ) → Row (made room .answer ≡ no-size k) (Holds room) (made room .deserializer ≡ fresh room k)
 
-abbrev pub TellSize : ℕ → (List ℕ → ℕ → Type 0) → Type 0
+abbrev pub TellSize : ℕ → (List Sign → ℕ → Type 0) → Type 0
 TellSize k Holds =
-    (start : ChunkDeserializer) (bytes : List ℕ) (d : ChunkDeserializer) → Open start bytes d → (size : ℕ)
-    → Row (told d size .answer ≡ no-size k) (Holds bytes size) (told d size .deserializer ≡ d)
+    (came : List Sign) (d : ChunkDeserializer) → Open came d → (size : ℕ)
+    → Row (told d size .answer ≡ no-size k) (Holds came size) (told d size .deserializer ≡ d)
 
 -- a call that is refused before its first byte ..
 abbrev pub Call : ℕ → (ChunkDeserializer → List ℕ → Type 0) → Type 0
 Call k Holds =
-    (start : ChunkDeserializer) (bytes : List ℕ) (d : ChunkDeserializer) → Open start bytes d → (input payload : List ℕ) → Bytes input → (n : ℕ)
+    (came : List Sign) (d : ChunkDeserializer) → Open came d → (input payload : List ℕ) → Bytes input → (n : ℕ)
     → Row (next d input payload .answer ≡ refused k n) (Holds d payload × (n ≡ 0)) (next d input payload ≡ outcome (refused k 0) d payload)
 
 -- .. and one that is refused "by bytes", at the n-th: a part of a chunk has come
-abbrev pub CallAt : (Chunk → List ℕ) → ℕ → (ChunkDeserializer → Chunk → Type 0) → Type 0
+abbrev pub CallAt : (Chunk → List ℕ) → ℕ → ((room : ℕ) → List Item → Chunk → Type 0) → Type 0
 CallAt part k Holds =
-    (start : ChunkDeserializer) (bytes : List ℕ) (d : ChunkDeserializer) → Open start bytes d → (input payload : List ℕ) → Bytes input → (n : ℕ)
-    → Row (next d input payload .answer ≡ refused k n) (Settled part Holds start bytes input n unless (length payload < d .room)) (Closed k d input payload n)
+    (came : List Sign) (d : ChunkDeserializer) → Open came d → (input payload : List ℕ) → Bytes input → (n : ℕ)
+    → Row (next d input payload .answer ≡ refused k n) (Settled part (Holds (d .room)) came d input payload n) (Closed k d input payload n)
 
 -- The table. Order, where several hold: `unless`; 1 and 2, or 3 and 4, never hold together
 pub record RefusalTable : Type 0 where
@@ -81,10 +83,10 @@ pub record RefusalTable : Type 0 where
   pub packet-length-2 : PacketLength 2 (λ payload. 16777215 < length payload)
   -- 3 | new chunk size is 0 | that end as before, 0 bytes
   pub change-size-3 : ChangeSize 3 (λ s size time output. size ≡ 0)
-  pub tell-size-3 : TellSize 3 (λ bytes size. size ≡ 0)
+  pub tell-size-3 : TellSize 3 (λ came size. size ≡ 0)
   -- 4 | new chunk size is over 2147483647 | the same
   pub change-size-4 : ChangeSize 4 (λ s size time output. 2147483647 < size)
-  pub tell-size-4 : TellSize 4 (λ bytes size. 2147483647 < size)
+  pub tell-size-4 : TellSize 4 (λ came size. 2147483647 < size)
   -- 5 | output shorter than the exact bytes needed | all as before, 0 bytes
   pub serialize-5 : Serialize 5 (λ s m payload output. length output < length (packetOf s m payload) unless ((length payload ≡ 0) ⊎ (16777215 < length payload)))
   pub change-size-5 : ChangeSize 5 (λ s size time output. length output < length (sizePacket s size time) unless ((size ≡ 0) ⊎ (2147483647 < size)))
@@ -94,19 +96,19 @@ pub record RefusalTable : Type 0 where
   -- 7 | payload buffer shorter than the room | all as before, 0 used
   pub call-7 : Call 7 (λ d payload. length payload < d .room)
   -- 8 | decoder told a size after the first byte of a message and before its end | decoder as before
-  pub tell-size-8 : TellSize 8 (λ bytes size. eight bytes unless ((size ≡ 0) ⊎ (2147483647 < size)))
+  pub tell-size-8 : TellSize 8 (λ came size. ((r : Read came) × eight (r .items) (r .part)) unless ((size ≡ 0) ⊎ (2147483647 < size)))
   -- 9 | type 1, 2 or 3 outside a message on a stream with no row | closed
-  pub call-9 : CallAt basic 9 nine
+  pub call-9 : CallAt basic 9 (λ room items c. nine items c)
   -- 10 | type 0 on a stream with no row, 64 rows used | closed
-  pub call-10 : CallAt basic 10 (λ d c. ten d c unless nine d c)
+  pub call-10 : CallAt basic 10 (λ room items c. ten items c unless nine items c)
   -- 11 | inside a message, another chunk stream | closed
-  pub call-11 : CallAt basic 11 (λ d c. eleven d c unless (nine d c ⊎ ten d c))
+  pub call-11 : CallAt basic 11 (λ room items c. eleven items c unless (nine items c ⊎ ten items c))
   -- 12 | inside a message, type 1 or 2, or a type 0 that doesn't repeat the message's header | closed
-  pub call-12 : CallAt headFor12 12 (λ d c. twelve d c unless (nine d c ⊎ ten d c ⊎ eleven d c))
+  pub call-12 : CallAt headFor12 12 (λ room items c. twelve items c unless (nine items c ⊎ ten items c ⊎ eleven items c))
   -- 13 | first chunk of type 1, 2 or 3, extended time below 16777215 | closed
-  pub call-13 : CallAt head 13 (λ d c. thirteen d c unless (nine d c ⊎ ten d c ⊎ eleven d c ⊎ twelve d c))
+  pub call-13 : CallAt head 13 (λ room items c. thirteen items c unless (nine items c ⊎ ten items c ⊎ eleven items c ⊎ twelve items c))
   -- 14 | first chunk, length over the room | closed
-  pub call-14 : CallAt head 14 (λ d c. fourteen d c unless (nine d c ⊎ ten d c ⊎ eleven d c ⊎ twelve d c ⊎ thirteen d c))
+  pub call-14 : CallAt head 14 (λ room items c. fourteen items c room unless (nine items c ⊎ ten items c ⊎ eleven items c ⊎ twelve items c ⊎ thirteen items c))
   -- 15 | control body under 2 bytes, or a known code with fewer bytes than it needs | nothing written
   pub read-body-15 : ReadBody 15 fifteen
   -- 16 | control code unknown | nothing written
@@ -117,21 +119,10 @@ pub record ClosedStays : Type 0 where
   pub call : (d : ChunkDeserializer) → d .closed ≢ 0 → (input payload : List ℕ) → next d input payload ≡ outcome (refused (d .closed) 0) d payload
   pub tell-size : (d : ChunkDeserializer) → d .closed ≢ 0 → (size : ℕ) → told d size ≡ telling (no-size (d .closed)) d
 
--- "inside a message" is said of a decoder: it is so exactly where a chunk was taken since the last message ended
-abbrev pub InsideMeans : Type 0
-InsideMeans =
-    (start : ChunkDeserializer) (bytes : List ℕ) (d : ChunkDeserializer) → Open start bytes d → (earlier : List ℕ) (decoder : ChunkDeserializer)
-    → Taken start earlier decoder
-    → Inside decoder ↔ 0 < length earlier
-
--- 14 is of the length in a chunk's own header: no decoder that calls can make has a row whose length is over its room, so a first chunk of type 2 or 3 is never 14
-pub record RowsFit : Type 0 where
-  pub rows : (d : ChunkDeserializer) → Made d → (i : ℕ) → i < 64 → rowAt (d .rows) i .«message_length» ≤ d .room
-  pub types : (start : ChunkDeserializer) (bytes : List ℕ) (d : ChunkDeserializer) → Open start bytes d → (earlier : List ℕ) (decoder : ChunkDeserializer)
-      → Taken start earlier decoder
-      → (c : Chunk)
-      → fourteen decoder c
-      → OneOf (type c) (0 ∷ 1 ∷ [])
+-- 14 is of the length in a chunk's own header: no length over the room has been said on any stream, so a first chunk of type 2 or 3 is never 14
+pub record LengthsFit : Type 0 where
+  pub said : (came : List Sign) (d : ChunkDeserializer) → Open came d → (r : Read came) → (id : ℕ) → saidOn (streams (r .items) id) .length ≤ d .room
+  pub types : (came : List Sign) (d : ChunkDeserializer) → Open came d → (r : Read came) → (c : Chunk) → fourteen (r .items) c (d .room) → OneOf (type c) (0 ∷ 1 ∷ [])
 
 -- and no entry point gives a number that the table does not name for it; a decoder that calls can make is open, or closed with one that closes
 pub record NoOther : Type 0 where
@@ -143,10 +134,10 @@ pub record NoOther : Type 0 where
   pub write-body : (e : UserControlEvent) (output : List ℕ) (k : ℕ) → writing (body e) output .answer ≡ not-written k → OneOf k (5 ∷ [])
   pub read-body : (bytes : List ℕ) (k : ℕ) → reading bytes ≡ no-body k → OneOf k (15 ∷ 16 ∷ [])
   pub new : (room k : ℕ) → made room .answer ≡ no-size k → OneOf k (6 ∷ [])
-  pub tell-size : (start : ChunkDeserializer) (bytes : List ℕ) (d : ChunkDeserializer) → Open start bytes d → (size k : ℕ) → told d size .answer ≡ no-size k
+  pub tell-size : (came : List Sign) (d : ChunkDeserializer) → Open came d → (size k : ℕ) → told d size .answer ≡ no-size k
       → OneOf k (3 ∷ 4 ∷ 8 ∷ [])
-  pub call : (start : ChunkDeserializer) (bytes : List ℕ) (d : ChunkDeserializer) → Open start bytes d → (input payload : List ℕ) → Bytes input → (k n : ℕ)
+  pub call : (came : List Sign) (d : ChunkDeserializer) → Open came d → (input payload : List ℕ) → Bytes input → (k n : ℕ)
       → next d input payload .answer ≡ refused k n
       → OneOf k (7 ∷ 9 ∷ 10 ∷ 11 ∷ 12 ∷ 13 ∷ 14 ∷ [])
   pub open-or-closed : (d : ChunkDeserializer) → Made d
-      → ((start : ChunkDeserializer) × ((bytes : List ℕ) × Open start bytes d)) ⊎ OneOf (d .closed) (6 ∷ 9 ∷ 10 ∷ 11 ∷ 12 ∷ 13 ∷ 14 ∷ [])
+      → ((came : List Sign) × Open came d) ⊎ OneOf (d .closed) (6 ∷ 9 ∷ 10 ∷ 11 ∷ 12 ∷ 13 ∷ 14 ∷ [])

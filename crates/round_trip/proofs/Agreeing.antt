@@ -3,7 +3,7 @@ use Prim.Native.Nat.{ℕ, _+_, _-_, _*_, _^_, _≤_, _<_}
 use mathlib.Core.Path.{_≡_, refl, sym, _∙_}
 use mathlib.Core.Logic.{_≢_}
 use mathlib.Core.Bool.{Bool, true, false}
-use mathlib.Core.List.{List}
+use mathlib.Core.List.{List, []}
 use native.Mathlib.Omega.{arith}
 use lib.Dec.{eqb}
 use lib.ListN.{length, getD, set, length-set, getD-replicate}
@@ -109,7 +109,7 @@ module _ (s : ChunkSerializer) (d : ChunkDeserializer) (a : Agrees s d) (m : Mes
     long = length-set (s .«previous_headers») (rowOf m) (header m (previous s m)) ∙ a .long;
     knows = knows-after (d″ .rows) record { held = λ p q. rw (rows, ← p) (at .moves .held); time = time }
         (λ i l n. record {
-          held = λ p q. rw rows (at .moves .others (i + 2) (rowFor (getD (s .«previous_headers») i nothing)) (λ e. n (omega (arith, e, row-stream))) (λ e. omega (arith, e)) (a .knows i l .held p q));
+          held = λ p q. record { is = rw rows (at .moves .others (i + 2) (λ e. omega (arith, e)) (λ e. n (omega (arith, e, row-stream))) ∙ a .knows i l .held p q .is) };
           time = a .knows i l .time;
         });
   }
@@ -126,7 +126,7 @@ fresh-agree room p q =
       closed = refl;
       size = refl;
       some = omega arith;
-      spare = λ i l h. getD-replicate {A = ℕ} 384 (6 * i) 0 0 (omega (arith, h));
+      spare = record { ids = []; lists = record { each = λ i h. getD-replicate {A = ℕ} 384 (6 * i) 0 0 (omega (arith, h)); used = λ i h. absurd (omega (arith, h)); most = omega arith }; few = omega arith };
       long = refl;
       knows = λ i l. rw (getD-replicate {A = ChunkHeader} 5 i nothing nothing l) record { held = λ e. absurd (omega (arith, e)); time = omega arith };
     }

@@ -19,13 +19,15 @@ use Rattle.serializer.specs.Message.{chunkStream}
 use Rattle.serializer.specs.Packet.{chunk, extended}
 use Rattle.chunk_header.specs.Limits.{maxField}
 use Rattle.deserializer.specs.declared.ChunkDeserializer.{ChunkDeserializer}
+use Rattle.byte_machine.specs.declared.reader.Stage.the-variants.{Csid}
 use Rattle.chunk_meaning.specs.declared.Row.{Row}
 use Rattle.deserializer.specs.Chunk.{ChunkFits, basicRefused, headerRefused, stored}
 use Rattle.deserializer.specs.Chunk.{header as headed}
 use Rattle.chunk_meaning.specs.Meaning.{firstRefusal, basicRefusal}
 use Rattle.chunk_header.specs.Table.{isFull}
-use Rattle.byte_machine.specs.Rows.{find, free}
-use Rattle.round_trip.proofs.Held.{Held, Spare, free-some}
+use Rattle.byte_machine.specs.Rows.{free}
+use Rattle.deserializer.proofs.Reached.{Reached}
+use Rattle.round_trip.proofs.Held.{Held, Spare, free-some, held-there}
 use Rattle.round_trip.proofs.Wire.{Fits, Taken, extended-fits, fields-fit, row-held, row-id, rowFor, says-field}
 
 -- by a field that is on the wire 13 is not given, nor 14 where the length is at most the room
@@ -99,7 +101,7 @@ chosen m previous =
     by-tests false true false true true true true a b c d e g = empty (goes-on a b c) (eqb-true _ _ d) (eqb-true _ _ e) (eqb-true _ _ g)
 
 -- a first chunk: the decoder is between messages, and holds what is remembered of a stream that goes on
-module _ (d : ChunkDeserializer) (m : Message) (previous : ChunkHeader) (piece : List ℕ) (between : d .reader .message .id ≡ 0) (spare : Spare (d .rows))
+module _ (d : ChunkDeserializer) (m : Message) (previous : ChunkHeader) (piece : List ℕ) (reached : Reached d) (stage : d .reader .stage ≡ Csid) (between : d .reader .message .id ≡ 0) (spare : Spare (d .rows))
     (knows : Goes-on m previous → Held (d .rows) (chunkStream (m .«type_id»)) (rowFor previous)) where
   abbrev first : ChunkHeaderFormat → Chunk
   first f = chunk f (headerBy f m previous) piece
@@ -107,9 +109,9 @@ module _ (d : ChunkDeserializer) (m : Message) (previous : ChunkHeader) (piece :
   basic-first : (f : ChunkHeaderFormat) → Chosen m previous f → basicRefused d (first f) ≡ 0
   unfolding basicRefusal
   basic-first Full full = rw (eq-eqb (d .reader .message .id) 0 between, lt-ltb (free (d .rows)) 64 (free-some (d .rows) spare), and-false)
-  basic-first TimeDeltaWithoutMessageStreamId (without-stream g) = rw (eq-eqb (d .reader .message .id) 0 between, lt-ltb (find (d .rows) (chunkStream (m .«type_id»))) 64 (knows g .there))
-  basic-first TimeDeltaOnly (delta-only g a b) = rw (eq-eqb (d .reader .message .id) 0 between, lt-ltb (find (d .rows) (chunkStream (m .«type_id»))) 64 (knows g .there))
-  basic-first Empty (empty g a b c) = rw (eq-eqb (d .reader .message .id) 0 between, lt-ltb (find (d .rows) (chunkStream (m .«type_id»))) 64 (knows g .there))
+  basic-first TimeDeltaWithoutMessageStreamId (without-stream g) = rw (eq-eqb (d .reader .message .id) 0 between, held-there (knows g))
+  basic-first TimeDeltaOnly (delta-only g a b) = rw (eq-eqb (d .reader .message .id) 0 between, held-there (knows g))
+  basic-first Empty (empty g a b c) = rw (eq-eqb (d .reader .message .id) 0 between, held-there (knows g))
 
   -- its header, with the row's numbers where it has none, says the wire's field and the message's length
   field-is : (f : ChunkHeaderFormat) → Chosen m previous f → headed d (first f) .«timestamp_field» ≡ min (headerBy f m previous .«timestamp_field») maxField
@@ -159,4 +161,7 @@ module _ (d : ChunkDeserializer) (m : Message) (previous : ChunkHeader) (piece :
       → m .length ≤ d .room
       → length piece ≡ min (d .«max_chunk_size») (m .length)
       → Taken d (first f) (headerBy f m previous)
-  first-chunk f c k t h e = record { basic = basic-first f c; head = head-first f c h; fits = fits-first f c (k f) e; stores = stores-first f c (k Full) t }
+  first-chunk f c k t h e = record {
+    takes = record { reached = reached; between = stage; fits = fits-first f c (k f) e; basic = basic-first f c; head = head-first f c h };
+    stores = stores-first f c (k Full) t;
+  }

@@ -6,7 +6,7 @@ use mathlib.Core.List.{List}
 use native.Mathlib.Omega.{arith}
 use lib.Dec.{eqb}
 use lib.ListN.{length}
-use borrow.Author.Tests.{eq-eqb, ne-eqb, lt-ltb}
+use borrow.Author.Tests.{eq-eqb, ne-eqb}
 use Rattle.chunk_header.specs.declared.ChunkHeader.{ChunkHeader}
 use Rattle.chunk_header.specs.Layout.{Chunk}
 use Rattle.serializer.specs.Packet.{chunk, extended}
@@ -14,12 +14,13 @@ use Rattle.deserializer.specs.declared.ChunkDeserializer.{ChunkDeserializer}
 use Rattle.deserializer.specs.Chunk.{ChunkFits, basicRefused, headerRefused, row, stored}
 use Rattle.deserializer.specs.Chunk.{header as headed}
 use Rattle.chunk_meaning.specs.Meaning.{basicRefusal, laterRefusal}
-use Rattle.byte_machine.specs.Rows.{find}
-use Rattle.round_trip.proofs.Held.{Held}
+use Rattle.byte_machine.specs.declared.reader.Stage.the-variants.{Csid}
+use Rattle.deserializer.proofs.Reached.{Reached}
+use Rattle.round_trip.proofs.Held.{Held, held-there}
 use Rattle.serializer.specs.Packet.{laterFormat}
 use Rattle.round_trip.proofs.Wire.{Fits, Taken, extended-fits, fields-fit, row-held, rowFor, says-field}
 
-module _ (d : ChunkDeserializer) (h : ChunkHeader) (piece : List ℕ) (own : d .reader .message .id ≡ h .«chunk_stream_id»)
+module _ (d : ChunkDeserializer) (h : ChunkHeader) (piece : List ℕ) (reached : Reached d) (stage : d .reader .stage ≡ Csid) (own : d .reader .message .id ≡ h .«chunk_stream_id»)
     (held : Held (d .rows) (h .«chunk_stream_id») (rowFor h)) (k : Fits h) where
   abbrev later : Bool → Chunk
   later forced = chunk (laterFormat forced) h piece
@@ -36,7 +37,7 @@ module _ (d : ChunkDeserializer) (h : ChunkHeader) (piece : List ℕ) (own : d .
 
   basic-later : (forced : Bool) → basicRefused d (later forced) ≡ 0
   unfolding basicRefusal
-  basic-later true = rw (begun, eq-eqb (d .reader .message .id) (h .«chunk_stream_id») own, lt-ltb (find (d .rows) (h .«chunk_stream_id»)) 64 (held .there))
+  basic-later true = rw (begun, eq-eqb (d .reader .message .id) (h .«chunk_stream_id») own, held-there held)
   basic-later false = rw (begun, eq-eqb (d .reader .message .id) (h .«chunk_stream_id») own)
 
   head-later : (forced : Bool) → (forced ≡ true → h .«timestamp_field» ≡ h .timestamp .value) → headerRefused d (later forced) ≡ 0
@@ -61,4 +62,7 @@ module _ (d : ChunkDeserializer) (h : ChunkHeader) (piece : List ℕ) (own : d .
   pub later-chunk : (forced : Bool) → (forced ≡ true → h .«timestamp_field» ≡ h .timestamp .value)
       → length piece ≡ min (d .«max_chunk_size») (h .«message_length» - d .reader .message .got)
       → Taken d (later forced) h
-  later-chunk forced e l = record { basic = basic-later forced; head = head-later forced e; fits = fits-later forced l; stores = stores-later forced }
+  later-chunk forced e l = record {
+    takes = record { reached = reached; between = stage; fits = fits-later forced l; basic = basic-later forced; head = head-later forced e };
+    stores = stores-later forced;
+  }

@@ -60,7 +60,7 @@ module _ (d : ChunkDeserializer) (m : Message) (previous : ChunkHeader) (payload
 
   taken : Taken d c h
   taken =
-      first-chunk d m previous (take size payload) (w .message) (w .spare) (w .knows) (format m previous) (chosen m previous) fits (w .before) room
+      first-chunk d m previous (take size payload) (w .reached) (w .stage) (w .message) (w .spare) (w .knows) (format m previous) (chosen m previous) fits (w .before) room
       (rw length-take (omega (arith, long)))
 
   others : size < length payload → (d′ : ChunkDeserializer) (buffer : List ℕ) (n : ℕ) → At d h (h .«chunk_stream_id») (got d c + length (take size payload)) d′
@@ -69,7 +69,7 @@ module _ (d : ChunkDeserializer) (m : Message) (previous : ChunkHeader) (payload
   others less d′ buffer n a =
       let t : length (take size payload) ≡ min size (length payload) = length-take size payload in
       let r : length (drop size payload) ≡ length payload - size = length-drop size payload in
-      later-reads h (fits (format m previous)) (m .«force_uncompressed») (forced-time m previous) size some rest (length (drop size payload)) d d′ (got d c + length (take size payload)) (drop size payload) buffer n a refl (w .spare)
+      later-reads h (fits (format m previous)) (m .«force_uncompressed») (forced-time m previous) size some rest (length (drop size payload)) d d′ (got d c + length (take size payload)) (drop size payload) buffer n a refl
       (omega (arith, t, r, less, long, none-yet))
       (omega (arith, r, less))
       (omega arith)
@@ -79,4 +79,4 @@ module _ (d : ChunkDeserializer) (m : Message) (previous : ChunkHeader) (payload
   unfolding packet
   packet-reads buffer n =
       rw (pieces-step size payload some bytes)
-      (rw none-yet at (chunk-then d h (format m previous) later-format size payload rest (fits (format m previous)) some (w .reached) (w .stage) (w .spare) taken (omega (arith, none-yet, long)) others buffer n))
+      (rw none-yet at (chunk-then d h (format m previous) later-format size payload rest (fits (format m previous)) some taken (omega (arith, none-yet, long)) others buffer n))

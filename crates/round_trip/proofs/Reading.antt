@@ -16,14 +16,11 @@ use Rattle.chunk_header.specs.Layout.{Chunk, chunkBytes}
 use Rattle.serializer.specs.Packet.{chunk, laterFormat}
 use Rattle.serializer.proofs.Later.{later, later-none, later-step}
 use Rattle.deserializer.specs.declared.ChunkDeserializer.{ChunkDeserializer}
-use Rattle.byte_machine.specs.declared.reader.Stage.the-variants.{Csid}
 use Rattle.deserializer.specs.Answer.{message as found}
 use Rattle.deserializer.specs.Call.{Outcome, outcome, run}
 use Rattle.deserializer.specs.Chunk.{got}
-use Rattle.deserializer.proofs.Reached.{Reached}
-use Rattle.round_trip.proofs.Held.{Spare, moves-then}
 use Rattle.round_trip.proofs.Later.{later-chunk}
-use Rattle.round_trip.proofs.Taking.{At, Last, Onward, chunk-ends, chunk-goes-on}
+use Rattle.round_trip.proofs.Taking.{At, Last, Onward, at-then, chunk-ends, chunk-goes-on}
 use Rattle.round_trip.proofs.Wire.{Fits, Taken}
 
 -- an outcome that hands out the message of a header, after so many bytes, and leaves a decoder between messages
@@ -31,19 +28,6 @@ pub record Reads (d : ChunkDeserializer) (h : ChunkHeader) (used : ℕ) (buffer 
   pub decoder : ChunkDeserializer
   pub runs : o ≡ outcome (found (h .«message_type_id») (h .«message_stream_id») (h .timestamp .value) (h .«message_length») used) decoder buffer
   pub at : At d h 0 0 decoder
-
--- what came before a decoder that some chunks of the message have come to
-pub at-then : {d d′ d″ : ChunkDeserializer} {h : ChunkHeader} {id id′ got got′ : ℕ} → At d h id got d′ → At d′ h id′ got′ d″ → At d h id′ got′ d″
-at-then a b = record {
-  reached = b .reached;
-  stage = b .stage;
-  message = b .message;
-  so-far = b .so-far;
-  room = b .room ∙ a .room;
-  size = b .size ∙ a .size;
-  closed = b .closed ∙ a .closed;
-  moves = moves-then (a .moves) (b .moves);
-}
 
 -- a chunk with the first of the bytes that are left, and then the chunks with the others
 module _ (d : ChunkDeserializer) (h : ChunkHeader) (f g : ChunkHeaderFormat) (size : ℕ) (xs rest : List ℕ) (k : Fits h) (some : 0 < size) where
@@ -95,20 +79,20 @@ module _ (d : ChunkDeserializer) (h : ChunkHeader) (f g : ChunkHeaderFormat) (si
       let left-in : sets buffer (got d c) xs ≡ sets buffer (got d c) (take size xs) = ap (sets buffer (got d c)) (sym p) in
       record { decoder = w .decoder; runs = rw (z, left-in) (w .runs buffer n rest); at = w .at }
 
-  pub chunk-then : Reached d → d .reader .stage ≡ Csid → Spare (d .rows) → Taken d c h → got d c + length xs ≡ h .«message_length»
+  pub chunk-then : Taken d c h → got d c + length xs ≡ h .«message_length»
       → (size < length xs → ReadOthers)
       → (buffer : List ℕ) (n : ℕ) → Read buffer n
-  chunk-then reached stage spare t left next buffer n = by-length (ltb size (length xs)) refl
+  chunk-then t left next buffer n = by-length (ltb size (length xs)) refl
     where
       by-length : (b : Bool) → ltb size (length xs) ≡ b → Read buffer n
       by-length true e =
           let less = ltb-true size (length xs) e in
           let l : length (take size xs) ≡ size = rw length-take (omega (arith, less)) in
-          then-others (chunk-goes-on d c h reached stage t k refl spare (omega (arith, left, l, less))) (next less) buffer n
+          then-others (chunk-goes-on t k refl (omega (arith, left, l, less))) (next less) buffer n
       by-length false e =
           let all = ltb-false size (length xs) e in
           let l : length (take size xs) ≡ length xs = rw length-take (omega (arith, all)) in
-          then-none (chunk-ends d c h reached stage t k refl spare (omega (arith, left, l))) all buffer n
+          then-none (chunk-ends t k refl (omega (arith, left, l))) all buffer n
 
 -- what a decoder inside a message has of it
 got-inside : (d : ChunkDeserializer) (c : Chunk) (id n : ℕ) → 2 ≤ id → d .reader .message .id ≡ id → d .reader .message .got ≡ n → got d c ≡ n
@@ -123,21 +107,20 @@ module _ (h : ChunkHeader) (k : Fits h) (forced : Bool) (time : forced ≡ true 
       → Taken d′ (chunk g h (take size xs)) h
   later-taken d d′ n xs a e l =
       let m : length (take size xs) ≡ min size (length xs) = length-take size xs in
-      later-chunk d′ h (take size xs) (a .message) (a .moves .held) k forced time (omega (arith, m, a .size, a .so-far, e, l))
+      later-chunk d′ h (take size xs) (a .reached) (a .stage) (a .message) (a .moves .held) k forced time (omega (arith, m, a .size, a .so-far, e, l))
 
   -- one of them, given how the others are read
-  next-reads : (d d′ : ChunkDeserializer) (n : ℕ) (xs buffer : List ℕ) (used : ℕ) → At d h (h .«chunk_stream_id») n d′ → d .«max_chunk_size» ≡ size → Spare (d .rows)
-      → n + length xs ≡ h .«message_length»
+  next-reads : (d d′ : ChunkDeserializer) (n : ℕ) (xs buffer : List ℕ) (used : ℕ) → At d h (h .«chunk_stream_id») n d′ → d .«max_chunk_size» ≡ size → n + length xs ≡ h .«message_length»
       → 0 < length xs
       → (size < length xs → (d″ : ChunkDeserializer) (buffer′ : List ℕ) (used′ : ℕ) → At d′ h (h .«chunk_stream_id») (n + length (take size xs)) d″
       → Reads d″ h (used′ + length (later g h size (drop size xs))) (sets buffer′ (n + length (take size xs)) (drop size xs))
       (run (later g h size (drop size xs) ++ rest) d″ buffer′ used′))
       → Reads d′ h (used + length (later g h size xs)) (sets buffer n xs) (run (later g h size xs ++ rest) d′ buffer used)
-  next-reads d d′ n xs buffer used a e s l p others =
+  next-reads d d′ n xs buffer used a e l p others =
       let c = chunk g h (take size xs) in
       let i : got d′ c ≡ n = got-inside d′ c (h .«chunk_stream_id») n (k .id-least) (a .message) (a .so-far) in
       rw (later-step g h size xs some p, ← i)
-      (chunk-then d′ h g g size xs rest k some (a .reached) (a .stage) (a .moves .spare s) (later-taken d d′ n xs a e l) (omega (arith, i, l))
+      (chunk-then d′ h g g size xs rest k some (later-taken d d′ n xs a e l) (omega (arith, i, l))
       (rw (← i) at others)
       buffer used)
 
@@ -152,13 +135,12 @@ module _ (h : ChunkHeader) (k : Fits h) (forced : Bool) (time : forced ≡ true 
   left-less xs b q = rw length-drop (omega (arith, q, some))
 
   pub later-reads : (b : ℕ) (d d′ : ChunkDeserializer) (n : ℕ) (xs buffer : List ℕ) (used : ℕ) → At d h (h .«chunk_stream_id») n d′ → d .«max_chunk_size» ≡ size
-      → Spare (d .rows)
       → n + length xs ≡ h .«message_length»
       → 0 < length xs
       → length xs ≤ b
       → Reads d′ h (used + length (later g h size xs)) (sets buffer n xs) (run (later g h size xs ++ rest) d′ buffer used)
-  later-reads zero d d′ n xs buffer used a e s l p q = absurd (not-suc-le-zero (le-trans p q))
-  later-reads (suc b) d d′ n xs buffer used a e s l p q =
-      next-reads d d′ n xs buffer used a e s l p
+  later-reads zero d d′ n xs buffer used a e l p q = absurd (not-suc-le-zero (le-trans p q))
+  later-reads (suc b) d d′ n xs buffer used a e l p q =
+      next-reads d d′ n xs buffer used a e l p
       (λ less d″ buffer′ used′ a′.
-      later-reads b d′ d″ (n + length (take size xs)) (drop size xs) buffer′ used′ a′ (a .size ∙ e) (a .moves .spare s) (left-adds n xs l less) (left-some xs less) (left-less xs b q))
+      later-reads b d′ d″ (n + length (take size xs)) (drop size xs) buffer′ used′ a′ (a .size ∙ e) (left-adds n xs l less) (left-some xs less) (left-less xs b q))

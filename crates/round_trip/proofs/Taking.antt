@@ -1,30 +1,38 @@
 -- What a chunk that is taken does to the decoder: its row is held, and its message goes on or is handed out.
-use Prim.Native.Nat.{ℕ, _+_, _-_, _≤_, _<_}
-use mathlib.Core.Path.{_≡_, refl, ap, _∙_}
-use mathlib.Core.Bool.{true, false}
-use mathlib.Core.List.{List, [], _++_}
+use Prim.Native.Nat.{ℕ, _+_, _≤_, _<_}
+use mathlib.Core.Path.{_≡_, refl, ap, subst, _∙_}
+use mathlib.Core.Bool.{true, false, cond}
+use mathlib.Core.List.{List, _++_}
+use mathlib.Core.Logic.{_≢_}
 use native.Mathlib.Omega.{arith}
-use lib.Dec.{ltb}
 use lib.ListN.{length}
 use lib.Seq.{sets}
 use borrow.Author.Tests.{le-ltb, lt-ltb}
 use Rattle.chunk_header.specs.declared.ChunkHeader.{ChunkHeader}
 use Rattle.chunk_header.specs.Layout.{Chunk, chunkBytes}
 use Rattle.deserializer.specs.declared.ChunkDeserializer.{ChunkDeserializer}
-use Rattle.byte_machine.specs.declared.reader.Event.{Event}
-use Rattle.byte_machine.specs.declared.reader.Event.the-variants.{Message}
+use Rattle.byte_machine.specs.declared.reader.Unfinished.{Unfinished}
 use Rattle.byte_machine.specs.declared.reader.Stage.the-variants.{Csid}
 use Rattle.chunk_meaning.specs.declared.Row.{Row}
+use Rattle.byte_machine.specs.Reader.{unfinished}
+use Rattle.byte_machine.specs.Rows.{ownRow}
+use Rattle.byte_machine.proofs.Putting.{Puts}
 use Rattle.deserializer.specs.Answer.{message as found}
-use Rattle.deserializer.specs.Call.{after, end, outcome, run}
-use Rattle.byte_machine.specs.Rows.{putAt}
-use Rattle.deserializer.specs.Chunk.{got, header, placeOf, stored}
-use Rattle.deserializer.proofs.Accepts.{accepts}
-use Rattle.deserializer.proofs.Reached.{Reached, run-reached}
-use Rattle.deserializer.proofs.ReadsBack.{claiming, finished}
-use Rattle.deserializer.proofs.Runs.{then}
-use Rattle.round_trip.proofs.Held.{Moves, Spare, put-moves}
+use Rattle.deserializer.specs.Call.{after, outcome, run}
+use Rattle.deserializer.specs.Chunk.{got, header}
+use Rattle.deserializer.proofs.Reached.{Reached}
+use Rattle.deserializer.proofs.Taken.{Leaves, Takes, done, goes, goes-on, hands-out, leaves, taking}
+use Rattle.round_trip.proofs.Held.{Held, Spare, still-spare}
 use Rattle.round_trip.proofs.Wire.{Fits, Taken, rowFor}
+
+-- the table after one stream's row has been put: that row, every other one as it was, and free ones left
+pub record Moves (id : ℕ) (row : Row) (rows rows′ : List ℕ) : Type 0 where
+  pub held : Held rows′ id row
+  pub others : (j : ℕ) → j ≢ 0 → j ≢ id → ownRow rows′ j ≡ ownRow rows j
+  pub spare : Spare rows → Spare rows′
+
+moves-then : {id : ℕ} {a b : Row} {rows rows′ rows″ : List ℕ} → Moves id a rows rows′ → Moves id b rows′ rows″ → Moves id b rows rows″
+moves-then m n = record { held = n .held; others = λ j p q. n .others j p q ∙ m .others j p q; spare = λ s. n .spare (m .spare s) }
 
 -- a decoder between chunks, some chunks of a message after another one: what the message has so far, its row, and all else as it was
 pub record At (d : ChunkDeserializer) (h : ChunkHeader) (id got : ℕ) (d′ : ChunkDeserializer) : Type 0 where
@@ -36,6 +44,19 @@ pub record At (d : ChunkDeserializer) (h : ChunkHeader) (id got : ℕ) (d′ : C
   pub size : d′ .«max_chunk_size» ≡ d .«max_chunk_size»
   pub closed : d′ .closed ≡ d .closed
   pub moves : Moves (h .«chunk_stream_id») (rowFor h) (d .rows) (d′ .rows)
+
+-- what came before a decoder that some chunks of the message have come to
+pub at-then : {d d′ d″ : ChunkDeserializer} {h : ChunkHeader} {id id′ got got′ : ℕ} → At d h id got d′ → At d′ h id′ got′ d″ → At d h id′ got′ d″
+at-then a b = record {
+  reached = b .reached;
+  stage = b .stage;
+  message = b .message;
+  so-far = b .so-far;
+  room = b .room ∙ a .room;
+  size = b .size ∙ a .size;
+  closed = b .closed ∙ a .closed;
+  moves = moves-then (a .moves) (b .moves);
+}
 
 -- a chunk after which its message goes on: the run goes on after it, from a decoder between chunks
 pub record Onward (d : ChunkDeserializer) (c : Chunk) (h : ChunkHeader) : Type 0 where
@@ -53,92 +74,45 @@ pub record Last (d : ChunkDeserializer) (c : Chunk) (h : ChunkHeader) : Type 0 w
       (sets buffer (got d c) (c .payload))
   pub at : At d h 0 0 decoder
 
-module _ (d : ChunkDeserializer) (c : Chunk) (h : ChunkHeader) (reached : Reached d) (stage : d .reader .stage ≡ Csid) (t : Taken d c h) (k : Fits h)
-    (own : c .id ≡ h .«chunk_stream_id») (spare : Spare (d .rows)) where
-  abbrev taking : ChunkDeserializer
-  taking = after (claiming d (c .id)) (finished d c)
+module _ {d : ChunkDeserializer} {c : Chunk} {h : ChunkHeader} (t : Taken d c h) (k : Fits h) (own : c .id ≡ h .«chunk_stream_id») where
+  left : Leaves d c
+  left = leaves (t .takes)
 
-  -- its row is put in the place of its own, or in a free one
-  moves-row : Moves (h .«chunk_stream_id») (rowFor h) (d .rows) (putAt (claiming d (c .id) .rows) (placeOf (d .rows) (c .id)) (stored d c))
-  moves-row = rw (t .stores, own) (put-moves (d .rows) (rowFor h) (reached .sound .long) (reached .sound .distinct) (k .id-least) (k .id-most) (k .type) spare)
+  moves-row : Moves (h .«chunk_stream_id») (rowFor h) (d .rows) (taking d c .rows)
+  moves-row =
+      let p : Puts (d .rows) (c .id) (rowFor h) (taking d c .rows) = subst (λ (r : Row). Puts (d .rows) (c .id) r (taking d c .rows)) (t .stores) (left .rows) in
+      subst (λ (i : ℕ). Moves i (rowFor h) (d .rows) (taking d c .rows)) own
+      (record { held = record { is = p .mine }; others = p .others; spare = still-spare p (omega (arith, own, k .id-least)) (omega (arith, own, k .id-most)) })
+
+  at-taken : (id n : ℕ) → cond (goes d c) (unfinished (c .id) (done d c)) (unfinished 0 0) ≡ unfinished id n → At d h id n (taking d c)
+  unfolding after
+  at-taken id n e = record {
+    reached = left .reached;
+    stage = left .between;
+    message = ap (λ (m : Unfinished). m .id) (left .message ∙ e);
+    so-far = ap (λ (m : Unfinished). m .got) (left .message ∙ e);
+    room = refl;
+    size = refl;
+    closed = left .closed;
+    moves = moves-row;
+  }
 
   length-is : header d c .«message_length» ≡ h .«message_length»
   length-is = ap (λ (r : Row). r .«message_length») (t .stores)
 
-  -- the run over its bytes
-  runs-over : (buffer : List ℕ) (n : ℕ) (rest : List ℕ)
-      → run (chunkBytes c ++ rest) d buffer n
-      ≡ then (claiming d (c .id)) (finished d c) (sets buffer (got d c) (c .payload)) (n + length (chunkBytes c)) rest
-  runs-over buffer n rest = accepts d c reached (t .basic) (t .head) buffer n rest stage (t .fits)
+  pub chunk-goes-on : got d c + length (c .payload) < h .«message_length» → Onward d c h
+  chunk-goes-on less =
+      let e : goes d c ≡ true = lt-ltb (done d c) (header d c .«message_length») (omega (arith, less, length-is)) in
+      record { decoder = taking d c; runs = goes-on (t .takes) e; at = at-taken (h .«chunk_stream_id») (done d c) (rw (e, own)) }
 
-  -- its message goes on
-  module _ (less : got d c + length (c .payload) < h .«message_length») where
-    goes : ltb (got d c + length (c .payload)) (header d c .«message_length») ≡ true
-    goes = lt-ltb (got d c + length (c .payload)) (header d c .«message_length») (omega (arith, less, length-is))
-
-    goes-on : (buffer : List ℕ) (n : ℕ) (rest : List ℕ)
-        → run (chunkBytes c ++ rest) d buffer n ≡ run rest taking (sets buffer (got d c) (c .payload)) (n + length (chunkBytes c))
-    goes-on buffer n rest = runs-over buffer n rest ∙ rw goes
-
-    goes-reached : Reached taking
-    unfolding run
-    goes-reached = rw (goes-on [] 0 []) at (run-reached (chunkBytes c ++ []) d [] 0 reached)
-
-    at-goes-on : At d h (h .«chunk_stream_id») (got d c + length (c .payload)) taking
-    unfolding after
-    at-goes-on = record {
-      reached = goes-reached;
-      stage = rw goes;
-      message = rw goes (ap (λ (r : Row). r .id) (t .stores));
-      so-far = rw goes;
-      room = refl;
-      size = refl;
-      closed = rw goes;
-      moves = rw goes moves-row;
-    }
-
-    pub chunk-goes-on : Onward d c h
-    chunk-goes-on = record { decoder = taking; runs = goes-on; at = at-goes-on }
-
-  -- or is handed out
-  module _ (whole : h .«message_length» ≤ got d c + length (c .payload)) where
-    ends : ltb (got d c + length (c .payload)) (header d c .«message_length») ≡ false
-    ends = le-ltb (got d c + length (c .payload)) (header d c .«message_length») (omega (arith, whole, length-is))
-
-    says : taking .reader .chunk .header ≡ rowFor h
-    unfolding after
-    says = rw ends (t .stores)
-
-    event-is : finished d c .event ≡ Message
-    event-is = rw ends
-
-    hands : (buffer : List ℕ) (n : ℕ) (rest : List ℕ)
-        → run (chunkBytes c ++ rest) d buffer n
-        ≡ outcome (found (h .«message_type_id») (h .«message_stream_id») (h .timestamp .value) (h .«message_length») (n + length (chunkBytes c))) taking
-        (sets buffer (got d c) (c .payload))
-    hands buffer n rest =
-        let buffer′ = sets buffer (got d c) (c .payload) in
-        let n′ = n + length (chunkBytes c) in
-        runs-over buffer n rest
-        ∙ ap (λ (e : Event). end e taking buffer′ n′ (run rest taking buffer′ n′)) event-is
-        ∙ ap (λ (r : Row). outcome (found (r .«message_type_id») (r .«message_stream_id») (r .timestamp .value) (r .«message_length») n′) taking buffer′) says
-
-    ends-reached : Reached taking
-    unfolding run
-    ends-reached = rw (hands [] 0 []) at (run-reached (chunkBytes c ++ []) d [] 0 reached)
-
-    at-ends : At d h 0 0 taking
-    unfolding after
-    at-ends = record {
-      reached = ends-reached;
-      stage = rw ends;
-      message = rw ends;
-      so-far = rw ends;
-      room = refl;
-      size = refl;
-      closed = rw ends;
-      moves = rw ends moves-row;
-    }
-
-    pub chunk-ends : Last d c h
-    chunk-ends = record { decoder = taking; runs = hands; at = at-ends }
+  pub chunk-ends : h .«message_length» ≤ got d c + length (c .payload) → Last d c h
+  chunk-ends whole =
+      let e : goes d c ≡ false = le-ltb (done d c) (header d c .«message_length») (omega (arith, whole, length-is)) in
+      record {
+        decoder = taking d c;
+        runs = λ buffer n rest.
+            hands-out (t .takes) e buffer n rest
+            ∙ ap (λ (r : Row). outcome (found (r .«message_type_id») (r .«message_stream_id») (r .timestamp .value) (r .«message_length») (n + length (chunkBytes c))) (taking d c) (sets buffer (got d c) (c .payload)))
+            (t .stores);
+        at = at-taken 0 0 (rw e);
+      }

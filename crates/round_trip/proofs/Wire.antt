@@ -5,7 +5,7 @@ use mathlib.Core.Bool.{Bool, true, false, cond}
 use native.Mathlib.Omega.{arith}
 use lib.Dec.{ltb}
 use lib.ListN.{length}
-use borrow.Author.Tests.{lt-ltb, ltb-true, ltb-false}
+use borrow.Author.Tests.{ltb-true, ltb-false}
 use Rattle.chunk_header.specs.declared.ChunkHeader.{ChunkHeader}
 use Rattle.chunk_header.specs.declared.ChunkHeaderFormat.{ChunkHeaderFormat}
 use Rattle.chunk_header.specs.declared.ChunkHeaderFormat.the-variants.{Full, TimeDeltaWithoutMessageStreamId, TimeDeltaOnly, Empty}
@@ -14,10 +14,11 @@ use Rattle.serializer.specs.Packet.{extended, messageHeader}
 use Rattle.chunk_header.specs.Limits.{maxField}
 use Rattle.deserializer.specs.declared.ChunkDeserializer.{ChunkDeserializer}
 use Rattle.chunk_meaning.specs.declared.Row.{Row}
-use Rattle.deserializer.specs.Chunk.{ChunkFits, ExtendedFits, basicRefused, headerRefused, row, stored, says}
+use Rattle.deserializer.specs.Chunk.{ExtendedFits, row, stored, says}
+use Rattle.deserializer.proofs.Taken.{Takes}
 use Rattle.byte_machine.specs.Rows.{find}
 use Rattle.byte_machine.proofs.RowLaws.{find-tells}
-use Rattle.round_trip.proofs.Held.{Held}
+use Rattle.round_trip.proofs.Held.{Held, held-row, held-there}
 
 -- the row that the decoder is to hold for what the encoder remembers: its time field is the wire's
 abbrev pub rowFor : ChunkHeader → Row
@@ -58,14 +59,12 @@ extended-fits field r e h = by-cases (ltb field maxField) refl
 
 -- a chunk is taken, and leaves what the encoder remembers
 pub record Taken (d : ChunkDeserializer) (c : Chunk) (h : ChunkHeader) : Type 0 where
-  pub basic : basicRefused d c ≡ 0
-  pub head : headerRefused d c ≡ 0
-  pub fits : ChunkFits d c
+  pub takes : Takes d c
   pub stores : stored d c ≡ rowFor h
 
 -- what a stream's row says where one is held, and its id where none is
 pub row-held : (d : ChunkDeserializer) (c : Chunk) (r : Row) → Held (d .rows) (c .id) r → row d c ≡ r
-row-held d c r h = rw (lt-ltb (find (d .rows) (c .id)) 64 (h .there)) (h .reads)
+row-held d c r h = rw (held-there h) (held-row h)
 
 pub row-id : (d : ChunkDeserializer) (c : Chunk) → row d c .id ≡ c .id
 row-id d c = by-cases (ltb (find (d .rows) (c .id)) 64) refl

@@ -1,5 +1,6 @@
--- The one statement about the whole table, by one computation of the definitions.
+-- The one statement about the whole table, by one computation of the definitions; and that Adobe's chunks fit.
 use mathlib.Core.Path.{refl}
+use native.Mathlib.Omega.{arith}
 use Rattle.fields.specs.Endian.{bigEndian, littleEndian, gather}
 use Rattle.chunk_header.specs.Basic.{csid}
 use Rattle.chunk_header.specs.Layout.{chunkBytes}
@@ -16,10 +17,34 @@ use Rattle.byte_machine.specs.Header.{opens, whole, extendedNext, streamNext, t
 use Rattle.chunk_meaning.specs.Meaning.{basicRefusal, laterRefusal, firstRefusal}
 use Rattle.byte_machine.specs.Rows.{putRow, seek}
 use Rattle.deserializer.specs.Told.{made}
+use Rattle.stream_meaning.specs.Connection.{AllFit}
 use Rattle.time.specs.Distance.{wrapped}
 use Rattle.samples.specs.Sample.{AsPrinted}
+use Rattle.samples.specs.Worked.{audio, items, video}
 use Rattle.samples.specs.Table.{table}
 
 pub samples-hold : AsPrinted table
 unfolding fieldLength formatOf after next run stepOf writes opens whole extendedNext streamNext typeNext lengthNext timestampNext named timestampField lengthField typeField streamField extendedField pays landed basicRefusal laterRefusal firstRefusal putRow seek made bigEndian littleEndian gather csid chunkBytes known count reading delta format chunkStream pieces packet sent serialized sizeChanged wrapped
 samples-hold = refl
+
+-- each of Adobe's chunks fits the chunk size of 128 and its stream
+pub audio-fits : AllFit (items audio)
+audio-fits = (
+  record { head = record { form = (omega arith, omega arith); fields = (omega arith, omega arith, omega arith, omega arith); extended = λ e. omega arith }; payload-of = refl },
+  (
+    record { head = record { form = (omega arith, omega arith); fields = omega arith; extended = λ e. omega arith }; payload-of = refl },
+    (
+      record { head = record { form = (omega arith, omega arith); fields = tt; extended = λ e. omega arith }; payload-of = refl },
+      (record { head = record { form = (omega arith, omega arith); fields = tt; extended = λ e. omega arith }; payload-of = refl }, tt),
+    ),
+  ),
+)
+
+pub video-fits : AllFit (items video)
+video-fits = (
+  record { head = record { form = (omega arith, omega arith); fields = (omega arith, omega arith, omega arith, omega arith); extended = λ e. omega arith }; payload-of = refl },
+  (
+    record { head = record { form = (omega arith, omega arith); fields = tt; extended = λ e. omega arith }; payload-of = refl },
+    (record { head = record { form = (omega arith, omega arith); fields = tt; extended = λ e. omega arith }; payload-of = refl }, tt),
+  ),
+)

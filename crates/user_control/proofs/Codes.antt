@@ -7,7 +7,8 @@ use mathlib.Core.List.{List, [], _∷_}
 use native.Mathlib.Omega.{arith}
 use lib.Dec.{ltb}
 use borrow.Author.Tests.{ne-eqb, ltb-true}
-use Rattle.user_control.specs.Reading.{among, known, bodyLength, lengthOr0}
+use Rattle.fields.specs.Cases.{among}
+use Rattle.user_control.specs.Reading.{known, bodyLength, lengthOr0}
 
 -- each is below n
 abbrev below : ℕ → List ℕ → Bool

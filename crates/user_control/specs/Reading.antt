@@ -1,11 +1,11 @@
 -- What a body means, and when it is refused (document 01, refusals 15 and 16). Bytes after the body are ignored.
 use Prim.Native.Nat.{ℕ, zero, suc, _+_, _*_}
-use mathlib.Core.Bool.{Bool, false, not, cond, _&&_, _||_}
+use mathlib.Core.Bool.{Bool, not, cond, _&&_, _||_}
 use mathlib.Core.List.{List, [], _∷_}
 use lib.Dec.{ltb, eqb}
 use lib.ListN.{length, take, drop}
 use Rattle.fields.specs.Endian.{number}
-use Rattle.fields.specs.Cases.{_when_, first}
+use Rattle.fields.specs.Cases.{_when_, among, first}
 use Rattle.user_control.specs.Answer.{Answer, event, refused}
 
 -- the first two bytes
@@ -16,10 +16,6 @@ codeIn bytes = number (take 2 bytes)
 abbrev pub numbersIn : (n : ℕ) → (bytes : List ℕ) → List ℕ
 numbersIn zero bytes = []
 numbersIn (suc n) bytes = number (take 4 bytes) ∷ numbersIn n (drop 4 bytes)
-
-abbrev pub among : (code : ℕ) → (codes : List ℕ) → Bool
-among c [] = false
-among c (k ∷ ks) = eqb c k || among c ks
 
 -- the codes that an event has
 unfoldable pub known : (code : ℕ) → Bool

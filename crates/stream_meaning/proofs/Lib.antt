@@ -1,0 +1,12 @@
+pub mod Beginning
+pub mod Connecting
+pub mod Feeding
+pub mod Saying
+pub mod Seeing
+pub mod Senders
+pub mod Taking
+pub mod UniqueLayout
+pub mod UniqueReading
+pub mod Walking
+pub mod Whole
+pub mod Writing
