@@ -1,0 +1,2 @@
+-- A session in two stretches, written out.
+use Prim.Native.Nat.{ℕ}
