@@ -2,6 +2,7 @@
 use crate::decoded::put_decoded;
 use crate::events::put_event;
 use crate::output::end_answer;
+use crate::plans::put_keep;
 use crate::state::State;
 use script_calls::Outcome;
 use script_text::put;
@@ -64,6 +65,9 @@ fn put_outcome(
         Outcome::Order(order) => put_order(text, filled, order),
         Outcome::Event(event) => put_event(text, filled, event),
         Outcome::Decoded(answer) => put_decoded(text, filled, answer, payload),
+        Outcome::Keep(count) => put_keep(text, filled, count, output),
+        Outcome::Cannot => put_words(text, filled, b"can't"),
+        Outcome::Accepted => put_words(text, filled, b"accepted"),
         _ => filled,
     }
 }

@@ -6,6 +6,7 @@ mod events;
 mod input;
 mod lines;
 mod output;
+mod plans;
 mod state;
 mod turns;
 

@@ -5,6 +5,7 @@ use crate::enc_calls;
 use crate::kept::Codec;
 use crate::kept::Made;
 use crate::outcomes::Outcome;
+use crate::plan_calls;
 use crate::time_calls;
 use script_text::place_of;
 use script_text::word;
@@ -59,11 +60,12 @@ fn make_named(
     output: &mut [u8],
     payload: &mut [u8],
 ) -> Made {
-    match place_of(b"time control enc dec", word(line, 0)) {
+    match place_of(b"time control enc dec plan", word(line, 0)) {
         0 => beside(codec, time_calls::make(line, bytes)),
         1 => beside(codec, control_calls::make(line, bytes, output)),
         2 => encode(codec, line, bytes, output),
         3 => decode(codec, line, bytes, payload),
+        4 => beside(codec, plan_calls::make(line, bytes, output)),
         _ => beside(codec, Outcome::BadLine),
     }
 }

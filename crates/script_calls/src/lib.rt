@@ -6,6 +6,8 @@ mod dec_calls;
 mod enc_calls;
 mod kept;
 mod outcomes;
+mod plan_calls;
+mod queues;
 mod time_calls;
 
 pub use crate::calls::LONGEST_LINE;

@@ -18,4 +18,8 @@ pub enum Outcome {
     Order(Order),
     Event(UserControlEvent),
     Decoded(Answer),
+    // what a plan keeps: how many places, which stand in the output, four bytes a place
+    Keep(usize),
+    Cannot,
+    Accepted,
 }
