@@ -1,6 +1,6 @@
 -- "An accepted plan on a session's packets, marked as the encoder was told and size changes never droppable, gives the kept messages of
 -- demand 3" (document 02, Ten).
-use Prim.Native.Nat.{ℕ, suc, _≤_}
+use Prim.Native.Nat.{ℕ, suc, _^_, _≤_, _<_}
 use mathlib.Core.Bool.{Bool, true}
 use mathlib.Core.List.{List, [], _∷_, _++_, map}
 use mathlib.Core.Path.{_≡_}
@@ -11,7 +11,7 @@ use Rattle.serializer.specs.Remembered.{fresh}
 use Rattle.deserializer.specs.Told.{maxRoom}
 use Rattle.drop_plan.specs.Answer.{accepted}
 use Rattle.drop_plan.specs.Check.{among, judged}
-use Rattle.drop_plan.specs.Queue.{Queue, queue}
+use Rattle.drop_plan.specs.Queue.{Queue, lengthAt, queue}
 use Rattle.round_trip.specs.Demand3.{Call, HandsOut, InRange, LeavesOutDroppable, Packet, Sending, bytes, encodes, kept, longest, mayBeLeftOut, packetsOf, receiver}
 
 -- a stretch of a session: calls of the encoder, and the places to keep of their packets within a limit. A session is such stretches one
@@ -92,6 +92,10 @@ pub record Gives (session : List Stretch) : Type 0 where
       → longest (planned fresh session) ≤ room
       → room ≤ length buffer
       → HandsOut (receiver room buffer (planned fresh session)) (planned fresh session) schedule
+
+-- and the queue is one that the check takes: each length is of 32 bits
+abbrev pub LengthsFit : Type 0
+LengthsFit = (s : ChunkSerializer) (calls : List Call) (place : ℕ) → lengthAt (queueOf (queued s calls)) place < 2 ^ 32
 
 abbrev pub PlanKeeps : Type 0
 PlanKeeps = (session : List Stretch) → Accepted fresh session → Gives session
