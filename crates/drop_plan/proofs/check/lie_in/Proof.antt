@@ -1,11 +1,11 @@
 -- The invariant: all places lie in the queue exactly when those from i on do.
-use Prim.Native.Nat.{ℕ, _≤_, _-_}
+use Prim.Native.Nat.{ℕ, _-_, _≤_, _<_}
 use mathlib.Core.Path.{_≡_, refl, sym, ap, _∙_}
 use native.Mathlib.Omega.{arith}
 use borrow.Author.Needs.{needs}
 use borrow.Author.Tests.{lt-ltb, le-ltb}
 use lib.Dec.{ltb}
-use lib.ListN.{length, drop, drop-of-length-le}
+use lib.ListN.{length, drop, getD, drop-of-length-le}
 use Rattle.drop_plan.specs.Check.{every, within}
 use Rattle.drop_plan.proofs.Steps.{every-next}
 use Rattle.drop_plan.proofs.check.lie_in.Statement.{statement}
@@ -34,7 +34,8 @@ unfolding within
 returns c =
     let l = c .before .before .before .before in
     let a = l .before .before .args in
-    sym (l .loop .inv .1 ∙ every-next (a .places .now) (l .loop .i) (omega arith) (λ (p : ℕ). ltb p (a .size)) ∙ simp (le-ltb _ _ (rw (c .before .wide .ensures) at (c .if1 .taken))))
+    let out : a .size ≤ getD (a .places .now) (l .loop .i) 0 = omega (arith, c .if1 .taken, c .before .wide .ensures) in
+    sym (l .loop .inv .1 ∙ every-next (a .places .now) (l .loop .i) (omega arith) (λ (p : ℕ). ltb p (a .size)) ∙ simp (le-ltb _ _ out))
 
 add-i : tie.Need-add-i Inv-loop μ-loop
 add-i c = omega arith
@@ -47,7 +48,8 @@ unfolding within
 loop-again c =
     let l = c .before .before .before .before in
     let a = l .before .before .args in
-    (omega arith, l .loop .inv .1 ∙ every-next (a .places .now) (l .loop .i) (omega arith) (λ (p : ℕ). ltb p (a .size)) ∙ simp (lt-ltb _ _ (rw (c .before .wide .ensures) at (c .if1 .left))))
+    let lies : getD (a .places .now) (l .loop .i) 0 < a .size = omega (arith, c .if1 .left, c .before .wide .ensures) in
+    (omega arith, l .loop .inv .1 ∙ every-next (a .places .now) (l .loop .i) (omega arith) (λ (p : ℕ). ltb p (a .size)) ∙ simp (lt-ltb _ _ lies))
 
 returns-2 : tie.Need-returns-2 Inv-loop μ-loop
 unfolding every within

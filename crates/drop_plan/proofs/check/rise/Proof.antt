@@ -1,9 +1,9 @@
 -- The invariant: all places rise exactly when those from i - 1 on do.
-use Prim.Native.Nat.{_+_, _-_, _≤_}
+use Prim.Native.Nat.{_+_, _-_, _≤_, _<_}
 use mathlib.Core.Path.{_≡_, refl, sym, ap, _∙_}
 use native.Mathlib.Omega.{arith}
 use borrow.Author.Tests.{lt-ltb, le-ltb}
-use lib.ListN.{length, drop}
+use lib.ListN.{length, drop, getD}
 use Rattle.drop_plan.specs.Check.{rising}
 use Rattle.drop_plan.proofs.Steps.{rising-next, rising-last}
 use Rattle.drop_plan.proofs.check.rise.Statement.{statement}
@@ -37,7 +37,9 @@ returns : tie.Need-returns Inv-loop μ-loop
 returns c =
     let l = c .before .before .before .before in
     let places = l .before .args .places .now in
-    sym (l .loop .inv .2 ∙ rising-next places (l .loop .i) (l .loop .inv .0) (omega arith) ∙ simp (le-ltb _ _ (c .if1 .taken)))
+    let i = l .loop .i in
+    let falls : getD places i 0 ≤ getD places (i - 1) 0 = omega (arith, c .if1 .taken) in
+    sym (l .loop .inv .2 ∙ rising-next places i (l .loop .inv .0) (omega arith) ∙ simp (le-ltb _ _ falls))
 
 add-i : tie.Need-add-i Inv-loop μ-loop
 add-i c = omega arith
@@ -49,8 +51,10 @@ loop-again : tie.Need-loop-again Inv-loop μ-loop
 loop-again c =
     let l = c .before .before .before .before in
     let places = l .before .args .places .now in
-    let e : l .loop .i + 1 - 1 ≡ l .loop .i = omega arith in
-    (omega arith, omega arith, l .loop .inv .2 ∙ rising-next places (l .loop .i) (l .loop .inv .0) (omega arith) ∙ simp (e, lt-ltb _ _ (c .if1 .left)))
+    let i = l .loop .i in
+    let e : i + 1 - 1 ≡ i = omega arith in
+    let rises : getD places (i - 1) 0 < getD places i 0 = omega (arith, c .if1 .left) in
+    (omega arith, omega arith, l .loop .inv .2 ∙ rising-next places i (l .loop .inv .0) (omega arith) ∙ simp (e, lt-ltb _ _ rises))
 
 returns-2 : tie.Need-returns-2 Inv-loop μ-loop
 returns-2 c =
