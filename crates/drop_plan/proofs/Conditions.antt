@@ -2,19 +2,19 @@
 use Prim.Native.Nat.{ℕ, zero, suc, _+_, _≤_, _<_}
 use mathlib.Core.Bool.{Bool, true, false, not, cond, _||_}
 use mathlib.Core.List.{List, [], _∷_}
-use mathlib.Core.Logic.{_⊎_, inl, inr, ⊎-elim}
-use mathlib.Core.Path.{_≡_, refl, sym, ap, _∙_}
+use mathlib.Core.Logic.{_⊎_, inl, inr}
+use mathlib.Core.Path.{_≡_, refl, sym, ap}
 use native.Mathlib.Nat.{eq-or-lt-of-le}
 use native.Mathlib.Omega.{arith}
 use lib.Dec.{ltb}
 use lib.ListN.{length, getD}
 use borrow.Author.Tests.{lt-ltb, ltb-true, ltb-false}
-use Rattle.fields.proofs.Tests.{clash, never}
+use Rattle.fields.proofs.Tests.{never}
 use Rattle.drop_plan.specs.Answer.{Judgement, accepted, refused}
-use Rattle.drop_plan.specs.Check.{among, every, includes, judged, rising, within}
-use Rattle.drop_plan.specs.Conditions.{AllHold, CheckJudges, Condition, Fit, FirstBroken, Include, Judges, LieIn, Rise, _unless_, _∈_}
+use Rattle.drop_plan.specs.Check.{among, includes, judged, rising, within}
+use Rattle.drop_plan.specs.Conditions.{CheckJudges, Condition, FirstBroken, Include, Judges, Rise, _unless_, _∈_}
 use Rattle.drop_plan.specs.Queue.{Queue, droppable, most, places, size, total}
-use Rattle.drop_plan.proofs.Members.{among-in, at-in, both-true, every-in, in-among, in-every, in-places, or-right, places-in}
+use Rattle.drop_plan.proofs.Members.{among-in, at-in, both-true, every-in, in-among, in-every, in-places, places-in}
 
 -- a test that is true exactly where a condition is broken
 record Breaks (t : Bool) (P : Type 0) : Type 0 where

@@ -1,11 +1,11 @@
 -- Places put one behind the other into an array: what is kept so far stands at its start, and what is still to be kept is not there yet.
 use Prim.Native.Nat.{ℕ, suc, _+_, _-_, _≤_, _<_}
-use mathlib.Core.Bool.{Bool, true, false, cond}
+use mathlib.Core.Bool.{Bool, true, false}
 use mathlib.Core.List.{List, [], _∷_, _++_, append-assoc, append-nil}
 use mathlib.Core.Path.{_≡_, refl, ap, sym, _∙_}
 use native.Mathlib.Omega.{arith}
-use lib.ListN.{length, drop, getD, set, replicate, length-append, length-replicate}
-use lib.Seq.{drop-cons, set-append-seam, append-snoc}
+use lib.ListN.{length, set, replicate, length-append}
+use lib.Seq.{drop-cons, set-append-seam}
 use Rattle.fields.specs.Output.{over}
 use Rattle.drop_plan.specs.Filling.{Adds}
 use Rattle.drop_plan.specs.Queue.{those}

@@ -1,22 +1,19 @@
 -- The plan is good: what stays rises in the queue with every packet that is not droppable, the search ends where it fits, and not before.
 use Prim.Native.Nat.{ℕ, zero, suc, _+_, _-_, _≤_, _<_}
 use mathlib.Core.Bool.{Bool, true, false, not, cond, _||_}
-use mathlib.Core.List.{List, [], _∷_}
+use mathlib.Core.List.{[], _∷_}
 use mathlib.Core.Logic.{_⊎_, inl, inr}
-use mathlib.Core.Path.{_≡_, refl, sym, ap, subst, _∙_}
+use mathlib.Core.Path.{_≡_, refl, sym, ap, _∙_}
 use native.Mathlib.Nat.{eq-or-lt-of-le}
-use native.Mathlib.Numerals.{add-one}
 use native.Mathlib.Omega.{arith}
 use lib.Dec.{leb, ltb}
-use lib.ListN.{length, getD}
-use borrow.Author.Tests.{leb-true, leb-false, le-leb, lt-leb, lt-ltb, le-ltb, ltb-true, ltb-false, not-true, not-false}
-use Rattle.fields.proofs.Tests.{clash, never}
-use Rattle.drop_plan.specs.Answer.{Outcome, accepted, cannot, keep, unplanned}
-use Rattle.drop_plan.specs.Check.{judged}
-use Rattle.drop_plan.specs.Conditions.{Fit, Include, LieIn, Rise, _∈_}
+use borrow.Author.Tests.{leb-true, leb-false, ltb-true, ltb-false, not-true}
+use Rattle.fields.proofs.Tests.{clash}
+use Rattle.drop_plan.specs.Answer.{Outcome, cannot, keep, unplanned}
+use Rattle.drop_plan.specs.Conditions.{Include, Rise, _∈_}
 use Rattle.drop_plan.specs.Plan.{beside, plan, planned, proposed, rest, staying, undroppable, until}
 use Rattle.drop_plan.specs.Promise.{Dropped, Good, PlannerPlans, Plans}
-use Rattle.drop_plan.specs.Queue.{Queue, droppable, lengthAt, most, places, placesFrom, size, those, total}
+use Rattle.drop_plan.specs.Queue.{Queue, droppable, most, places, placesFrom, size, those, total}
 use Rattle.drop_plan.proofs.Conditions.{check-judges, above-rises}
 use Rattle.drop_plan.proofs.Members.{in-places, in-those, or-right, places-in, those-in}
 use Rattle.drop_plan.proofs.Rest.{rest-last, rest-next, those-same}

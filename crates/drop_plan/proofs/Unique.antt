@@ -1,5 +1,4 @@
 -- Both listings decide their answers, since these can be told from them.
-use Prim.Native.Nat.{ℕ}
 use mathlib.Core.Path.{_≡_, refl, ap}
 use Rattle.fields.specs.Deciding.{Decides}
 use Rattle.fields.proofs.Deciding.{told-decides}

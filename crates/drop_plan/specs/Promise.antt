@@ -17,7 +17,7 @@ Dropped q proposal p = (p < size q) × ¬ (p ∈ proposal)
 pub record Good (q : Queue) (limit : ℕ) (proposal : List ℕ) : Type 0 where
   -- "is always accepted"
   pub accepts : judged q limit proposal ≡ accepted
-  -- "drops the oldest": each is droppable, and older than every droppable one that is kept
+  -- "drops the oldest": each is older than every droppable one that is kept
   pub oldest : (p k : ℕ) → Dropped q proposal p → k ∈ proposal → droppable q k ≡ true → p < k
   -- "until the rest fits": with the last one that was dropped back, it does not
   pub needed : (p : ℕ) → Dropped q proposal p → ((k : ℕ) → Dropped q proposal k → k ≤ p) → limit < lengthAt q p + total (q .lengths) proposal

@@ -3,18 +3,16 @@ use Prim.Native.Nat.{ℕ, zero, suc, _+_, _≤_, _<_}
 use mathlib.Core.Bool.{Bool, true, false}
 use mathlib.Core.List.{List, [], _∷_, _++_, map, append-assoc}
 use mathlib.Core.Logic.{_⊎_, inl, inr}
-use mathlib.Core.Path.{_≡_, refl, sym, ap, _∙_}
+use mathlib.Core.Path.{_≡_, refl, sym, _∙_}
 use native.Mathlib.Nat.{eq-or-lt-of-le}
 use native.Mathlib.Omega.{arith}
-use lib.Dec.{eqb}
 use lib.ListN.{length, take, drop, getD, length-append}
 use lib.Seq.{drop-append-seam}
 use borrow.Author.Tests.{eq-eqb, ne-eqb}
-use Rattle.fields.proofs.Tests.{clash, never}
 use Rattle.drop_plan.specs.Check.{among}
 use Rattle.drop_plan.specs.Conditions.{Rise, _∈_}
 use Rattle.drop_plan.specs.Queue.{total}
-use Rattle.drop_plan.proofs.Members.{among-in, at-in}
+use Rattle.drop_plan.proofs.Members.{among-in}
 use Rattle.round_trip.specs.Demand3.{Packet, bytes, keep}
 use Rattle.plan_keeps.specs.Session.{chosen}
 

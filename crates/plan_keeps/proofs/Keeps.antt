@@ -1,27 +1,24 @@
 -- An accepted plan keeps what demand 3 keeps: call by call, a packet is kept where its place is among the plan's, and only a droppable one is not.
-use Prim.Native.Nat.{ℕ, zero, suc, _+_, _≤_, _<_}
+use Prim.Native.Nat.{ℕ, suc, _+_, _≤_, _<_}
 use mathlib.Core.Bool.{Bool, true, false}
 use mathlib.Core.List.{List, [], _∷_, _++_, map, append-assoc}
-use mathlib.Core.Logic.{_⊎_, inl, inr}
-use mathlib.Core.Path.{_≡_, refl, sym, ap, subst, _∙_}
+use mathlib.Core.Path.{_≡_, refl, sym, ap, _∙_}
 use native.Mathlib.Omega.{arith}
-use lib.ListN.{length, getD, length-map}
-use Rattle.fields.proofs.Tests.{clash, never}
+use lib.ListN.{length, length-map}
+use Rattle.fields.proofs.Tests.{clash}
 use Rattle.serializer.specs.declared.ChunkSerializer.{ChunkSerializer}
 use Rattle.serializer.specs.Answer.{Answer as Written, wrote, refused as not-written}
 use Rattle.serializer.specs.Remembered.{fresh}
-use Rattle.serializer.specs.Serialize.{Outcome as Encoded}
-use Rattle.deserializer.specs.Told.{maxRoom}
 use Rattle.drop_plan.specs.Answer.{accepted}
 use Rattle.drop_plan.specs.Check.{among, judged}
-use Rattle.drop_plan.specs.Conditions.{AllHold, Fit, Include, LieIn, Rise, conditions, _∈_}
-use Rattle.drop_plan.specs.Queue.{Queue, droppable, lengthAt, queue, size, total}
+use Rattle.drop_plan.specs.Conditions.{AllHold, conditions}
+use Rattle.drop_plan.specs.Queue.{droppable, size}
 use Rattle.drop_plan.proofs.Conditions.{check-judges}
 use Rattle.drop_plan.proofs.Members.{in-among}
-use Rattle.round_trip.specs.Demand3.{Call, HandsOut, InRange, LeavesOutDroppable, Packet, Sending, bytes, encodes, keep, kept, longest, mayBeLeftOut, packetsOf, receiver}
+use Rattle.round_trip.specs.Demand3.{Call, LeavesOutDroppable, Packet, Sending, bytes, encodes, keep, kept, mayBeLeftOut, packetsOf}
 use Rattle.round_trip.proofs.Demand3.{demand-3}
-use Rattle.plan_keeps.specs.Session.{Accepted, Gives, PlanKeeps, Queued, Stretch, WithinLimits, afterCalls, chosen, isKept, nextPlace, packets, planned, queueOf, queued, run, sendings}
-use Rattle.plan_keeps.proofs.Chosen.{LieFrom, asked, asked-chosen, chosen-bytes}
+use Rattle.plan_keeps.specs.Session.{Accepted, PlanKeeps, Queued, Stretch, WithinLimits, afterCalls, chosen, isKept, nextPlace, packets, planned, queueOf, queued, run, sendings}
+use Rattle.plan_keeps.proofs.Chosen.{asked, asked-chosen, chosen-bytes}
 
 -- the packets that a call puts behind the others, each with the call
 abbrev queuedOf : Call → Written → List ℕ → List Queued

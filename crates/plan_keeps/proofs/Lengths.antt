@@ -1,12 +1,12 @@
 -- A packet is at most its payload and 16 bytes a chunk, a chunk has a byte of payload at least, and a payload is at most 16777215 bytes: so its length is of 32 bits.
-use Prim.Native.Nat.{ℕ, zero, suc, _+_, _-_, _*_, _/_, _^_, _≤_, _<_, max, min}
+use Prim.Native.Nat.{ℕ, zero, suc, _+_, _-_, _*_, _/_, _^_, _≤_, _<_}
 use mathlib.Core.Bool.{Bool, true, false, cond}
 use mathlib.Core.List.{List, [], _∷_, _++_, map}
-use mathlib.Core.Path.{_≡_, refl, sym, ap, _∙_}
+use mathlib.Core.Path.{_≡_, refl}
 use native.Mathlib.Nat.{div-lt-iff-lt-mul, mul-le-mul}
 use native.Mathlib.Omega.{arith}
 use lib.Dec.{eqb, ltb}
-use lib.ListN.{length, getD, take, length-take}
+use lib.ListN.{length, length-take}
 use borrow.Author.Tests.{eqb-false, ltb-false}
 use Rattle.fields.proofs.Endian.{length-big}
 use Rattle.fields.specs.Endian.{bigEndian}
@@ -17,7 +17,7 @@ use Rattle.serializer.specs.Answer.{Answer as Written, wrote, refused as not-wr
 use Rattle.serializer.specs.Message.{message as to-encode}
 use Rattle.serializer.specs.Packet.{roundedUp}
 use Rattle.serializer.specs.Remembered.{packetOf, previous, sizeOf}
-use Rattle.serializer.specs.Serialize.{Outcome as Encoded, accept, refuse, sent, serialized, sizeChanged, sizeMessage}
+use Rattle.serializer.specs.Serialize.{accept, refuse, sent, serialized, sizeChanged, sizeMessage}
 use Rattle.serializer.proofs.Laws.{packet-most}
 use Rattle.drop_plan.specs.Queue.{lengthAt}
 use Rattle.round_trip.specs.Demand3.{Call, Packet, encodes, packetsOf, resize, send}

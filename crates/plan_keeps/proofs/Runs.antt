@@ -1,6 +1,5 @@
 -- The session gives what is expected, by computing the definitions.
-use Prim.Native.Nat.{ℕ}
-use mathlib.Core.List.{List, [], _∷_, map}
+use mathlib.Core.List.{[], _∷_, map}
 use mathlib.Core.Path.{_≡_, refl}
 use Rattle.fields.specs.Endian.{bigEndian, littleEndian, gather}
 use Rattle.chunk_header.specs.Basic.{csid}
@@ -12,7 +11,7 @@ use Rattle.serializer.specs.Packet.{packet, pieces}
 use Rattle.serializer.specs.Remembered.{fresh}
 use Rattle.serializer.specs.Serialize.{sent, serialized, sizeChanged}
 use Rattle.drop_plan.specs.Check.{among, every, includes, judged, rising, within}
-use Rattle.drop_plan.specs.Plan.{plan, planned as proposal, until}
+use Rattle.drop_plan.specs.Plan.{plan, until}
 use Rattle.drop_plan.specs.Queue.{placesFrom, those, total}
 use Rattle.round_trip.specs.Demand3.{Packet}
 use Rattle.plan_keeps.specs.Runs.{first, first-calls, first-queue, second, second-calls, second-queue, session, session-messages}

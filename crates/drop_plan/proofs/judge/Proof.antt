@@ -77,6 +77,9 @@ module _ (k : tie.After-kept-length) where
   abbrev r : tie.After-rise
   r = i .before .before .before .before
 
+  abbrev limit : ℕ
+  limit = r .before .before .before .before .before .args .limit
+
   included : includes (asked r) (proposal r) ≡ true
   included = sym (i .include .ensures) ∙ not-false (i .include .result) (k .before .if4 .left)
 
@@ -84,14 +87,14 @@ returns-5 : tie.Need-returns-5
 unfolding judged
 returns-5 c =
     let k = c .before in
-    let over = rw (k .kept-length .ensures) at (c .if5 .taken) in
+    let over : limit k < total (asked (r k) .lengths) (proposal (r k)) = omega (arith, c .if5 .taken, k .kept-length .ensures) in
     simp (up-to-64 (r k), rose (i k .before .before), lay (i k), included k, lt-ltb _ _ over)
 
 returns-6 : tie.Need-returns-6
 unfolding judged
 returns-6 c =
     let k = c .before in
-    let fits = rw (k .kept-length .ensures) at (c .if5 .left) in
+    let fits : total (asked (r k) .lengths) (proposal (r k)) ≤ limit k = omega (arith, c .if5 .left, k .kept-length .ensures) in
     simp (up-to-64 (r k), rose (i k .before .before), lay (i k), included k, le-ltb _ _ fits)
 
 pub judge-spec : {M : Type 1} → statement M

@@ -1,6 +1,7 @@
 -- Each way out is one of the definition's cases; the rest where all are dropped is those that are not droppable.
 use mathlib.Core.Path.{_≡_, ap, _∙_}
-use Prim.Native.Nat.{ℕ}
+use Prim.Native.Nat.{ℕ, _≤_, _<_}
+use native.Mathlib.Omega.{arith}
 use borrow.Author.Needs.{needs}
 use borrow.Author.Tests.{lt-ltb, le-ltb}
 use Rattle.drop_plan.specs.Plan.{planned, proposed, rest, undroppable}
@@ -9,9 +10,12 @@ use Rattle.drop_plan.proofs.Rest.{rest-last}
 use Rattle.drop_plan.proofs.propose.Statement.{statement}
 use Rattle.drop_plan.proofs.propose.Tie as tie
 
--- the queue, and the bytes of those that are not droppable as they were added up
+-- the queue and the limit, and the bytes of those that are not droppable as they were added up
 abbrev asked : tie.After-rest-length → Queue
 asked r = let a = r .before .before .before .before .args in queue (a .lengths .now) (a .droppable .now)
+
+abbrev limit : tie.After-rest-length → ℕ
+limit r = r .before .before .before .before .args .limit
 
 needed : (r : tie.After-rest-length) → r .rest-length .result ≡ total (asked r .lengths) (undroppable (asked r))
 needed r = r .rest-length .ensures ∙ ap (total (asked r .lengths)) (rest-last (asked r))
@@ -33,7 +37,8 @@ returns-2 : tie.Need-returns-2
 unfolding planned
 returns-2 c =
     let r = c .before .before in
-    simp (le-ltb _ _ (r .before .if1 .left), lt-ltb _ _ (rw (needed r) at (c .before .if2 .taken))) (c .without-places2 .ensures)
+    let over : limit r < total (asked r .lengths) (undroppable (asked r)) = omega (arith, c .before .if2 .taken, needed r) in
+    simp (le-ltb _ _ (r .before .if1 .left), lt-ltb _ _ over) (c .without-places2 .ensures)
 
 first-to-stay-requires : tie.Need-first-to-stay-requires
 first-to-stay-requires c κs = search needs
@@ -45,7 +50,8 @@ returns-3 : tie.Need-returns-3
 unfolding planned
 returns-3 c =
     let r = c .before .before .before in
-    simp (le-ltb _ _ (r .before .if1 .left), le-ltb _ _ (rw (needed r) at (c .before .before .if2 .left)))
+    let fits : total (asked r .lengths) (undroppable (asked r)) ≤ limit r = omega (arith, c .before .before .if2 .left, needed r) in
+    simp (le-ltb _ _ (r .before .if1 .left), le-ltb _ _ fits)
     (c .keep-from .ensures ∙ ap (λ (start : ℕ). proposed (rest (asked r) start)) (c .before .first-to-stay .ensures))
 
 pub propose-spec : {M : Type 1} → statement M

@@ -1,6 +1,6 @@
 -- The invariant: the sum and what the places from i on add up to are the whole. Each length is below 2 ^ 32 and there are at most 64, so no sum wraps.
-use Prim.Native.Nat.{_+_, _*_, _^_, _-_, _≤_, _<_}
-use mathlib.Core.Path.{_≡_, refl, sym, ap, _∙_}
+use Prim.Native.Nat.{_+_, _*_, _-_, _≤_}
+use mathlib.Core.Path.{_≡_, ap, _∙_}
 use native.Mathlib.Omega.{arith}
 use borrow.Author.Needs.{needs}
 use lib.ListN.{length, drop, getD, drop-of-length-le}

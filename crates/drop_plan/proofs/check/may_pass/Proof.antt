@@ -1,5 +1,5 @@
 -- Each way out is one of the definition's two.
-use mathlib.Core.Path.{_≡_, sym, _∙_}
+use mathlib.Core.Path.{sym, _∙_}
 use borrow.Author.Needs.{needs}
 use Rattle.drop_plan.proofs.check.may_pass.Statement.{statement}
 use Rattle.drop_plan.proofs.check.may_pass.Tie as tie

@@ -1,7 +1,5 @@
 -- Each way out is one of the definition's two.
-use mathlib.Core.Path.{_≡_, refl}
 use borrow.Author.Needs.{needs}
-use native.Mathlib.Omega.{arith}
 use native.Mathlib.Numerals.{add-one}
 use Rattle.drop_plan.proofs.keep.add_place.Statement.{statement}
 use Rattle.drop_plan.proofs.keep.add_place.Tie as tie

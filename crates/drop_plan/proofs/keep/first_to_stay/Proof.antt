@@ -1,7 +1,7 @@
 -- The invariant: the search from the start is the search from `start`, and `left` is what the rest adds up to there.
-use Prim.Native.Nat.{ℕ, _+_, _-_, _≤_, _<_}
+use Prim.Native.Nat.{_-_, _≤_, _<_}
 use mathlib.Core.Bool.{Bool, false, cond}
-use mathlib.Core.Path.{_≡_, refl, sym, ap, _∙_}
+use mathlib.Core.Path.{_≡_, sym, ap, _∙_}
 use native.Mathlib.Omega.{arith}
 use borrow.Author.Needs.{needs}
 use borrow.Author.Tests.{le-leb, lt-leb}
@@ -44,7 +44,7 @@ returns c =
     let l = c .before .before in
     let a = l .before .before .before .before .args in
     let q = queue (a .lengths .now) (a .droppable .now) in
-    let fits : total (a .lengths .now) (rest q (l .loop .start)) ≤ a .limit = rw (← l .loop .inv .1) (c .if1 .taken) in
+    let fits : total (a .lengths .now) (rest q (l .loop .start)) ≤ a .limit = omega (arith, c .if1 .taken, l .loop .inv .1) in
     sym (l .loop .inv .2 ∙ until-next q (a .limit) (l .loop .start) (length (a .lengths .now)) (omega arith) ∙ simp (le-leb _ _ fits))
 
 is-droppable-requires : tie.Need-is-droppable-requires Inv-loop μ-loop
@@ -70,7 +70,7 @@ loop-again c =
     let l = c .before .before .before .before in
     let a = l .before .before .before .before .args in
     let q = queue (a .lengths .now) (a .droppable .now) in
-    let over : a .limit < total (a .lengths .now) (rest q (l .loop .start)) = rw (← l .loop .inv .1) (c .before .before .if1 .left) in
+    let over : a .limit < total (a .lengths .now) (rest q (l .loop .start)) = omega (arith, c .before .before .if1 .left, l .loop .inv .1) in
     let less = rest-next q (l .loop .start) (omega arith) in
     (omega arith, omega (arith, going c), l .loop .inv .2 ∙ until-next q (a .limit) (l .loop .start) (length (a .lengths .now)) (omega arith) ∙ simp (lt-leb _ _ over))
 

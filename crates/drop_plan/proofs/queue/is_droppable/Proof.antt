@@ -1,6 +1,6 @@
 -- Beyond the marks the default is read.
 use mathlib.Core.Bool.{false}
-use mathlib.Core.Path.{_≡_, sym}
+use mathlib.Core.Path.{sym}
 use borrow.Author.Needs.{needs}
 use native.Mathlib.Omega.{arith}
 use lib.ListN.{List·getD-eq-default}

@@ -1,5 +1,4 @@
 -- Each way out is one of the definition's two.
-use mathlib.Core.Path.{_≡_, _∙_}
 use borrow.Author.Needs.{needs}
 use Rattle.drop_plan.proofs.queue.length_if.Statement.{statement}
 use Rattle.drop_plan.proofs.queue.length_if.Tie as tie
