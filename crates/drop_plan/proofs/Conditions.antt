@@ -84,12 +84,6 @@ rises-rising (p ∷ []) r = refl
 rises-rising (p ∷ k ∷ ks) r =
     rw (lt-ltb p k (r 0 1 (omega arith) (omega arith)), rises-rising (k ∷ ks) (λ i j l h. r (suc i) (suc j) (omega arith) (omega arith)))
 
--- a place before others that rise
-pub above-rises : (k : ℕ) (ks : List ℕ) → ((p : ℕ) → p ∈ ks → k < p) → Rise ks → Rise (k ∷ ks)
-above-rises k ks h r i zero l m = absurd (omega arith)
-above-rises k ks h r zero (suc j) l m = h _ (at-in ks j (omega arith))
-above-rises k ks h r (suc i) (suc j) l m = r i j (omega arith) (omega arith)
-
 -- "lie in the queue"
 pub within-lies : (n : ℕ) (ks : List ℕ) → within n ks ≡ true → (p : ℕ) → p ∈ ks → p < n
 unfolding within

@@ -14,15 +14,16 @@ use Rattle.drop_plan.specs.Conditions.{Include, Rise, _∈_}
 use Rattle.drop_plan.specs.Plan.{beside, plan, planned, proposed, rest, staying, undroppable, until}
 use Rattle.drop_plan.specs.Promise.{Dropped, Good, PlannerPlans, Plans}
 use Rattle.drop_plan.specs.Queue.{Queue, droppable, most, places, placesFrom, size, those, total}
-use Rattle.drop_plan.proofs.Conditions.{check-judges, above-rises}
+use Rattle.drop_plan.proofs.Conditions.{check-judges}
 use Rattle.drop_plan.proofs.Members.{in-places, in-those, or-right, places-in, those-in}
+use Rattle.drop_plan.proofs.Rising.{above-rises}
 use Rattle.drop_plan.proofs.Rest.{rest-last, rest-next, those-same}
 
 -- places that pass a test rise
 those-above : (test : ℕ → Bool) (n a b : ℕ) → a ≤ b → (p : ℕ) → p ∈ those test (placesFrom b n) → a ≤ p
 those-above test n a b h p m = let k = places-in n b p (those-in test (placesFrom b n) p m .0) in omega arith
 
-those-rise : (test : ℕ → Bool) (n a : ℕ) → Rise (those test (placesFrom a n))
+pub those-rise : (test : ℕ → Bool) (n a : ℕ) → Rise (those test (placesFrom a n))
 unfolding those placesFrom
 those-rise test zero a = λ i j l h. absurd (omega arith)
 those-rise test (suc n) a = go (test a) (those-rise test n (suc a))
@@ -33,12 +34,12 @@ those-rise test (suc n) a = go (test a) (those-rise test n (suc a))
 
 -- what stays, and what does not
 module _ (q : Queue) (start : ℕ) where
-  stays-in : (p : ℕ) → p ∈ rest q start → (p < size q) × (staying (q .marks) start p ≡ true)
+  pub stays-in : (p : ℕ) → p ∈ rest q start → (p < size q) × (staying (q .marks) start p ≡ true)
   stays-in p m =
       let h = those-in (staying (q .marks) start) (places q) p m in
       (omega (arith, places-in (size q) 0 p (h .0) .1), h .1)
 
-  in-rest : (p : ℕ) → p < size q → staying (q .marks) start p ≡ true → p ∈ rest q start
+  pub in-rest : (p : ℕ) → p < size q → staying (q .marks) start p ≡ true → p ∈ rest q start
   in-rest p h e = in-those (staying (q .marks) start) (places q) p (in-places (size q) 0 p (omega arith) (omega arith)) e
 
   rest-includes : Include q (rest q start)
@@ -62,10 +63,10 @@ module _ (q : Queue) (start : ℕ) where
       go false e f = clash (rw d at (not-true (droppable q p) f)) refl
 
 -- where the search ends: the rest fits there, where it fits at all, and it does not at any place before
-record Ends (q : Queue) (limit start end : ℕ) : Type 0 where
-  fits : total (q .lengths) (undroppable q) ≤ limit → total (q .lengths) (rest q end) ≤ limit
-  in-queue : end ≤ size q
-  not-before : (s : ℕ) → start ≤ s → s < end → limit < total (q .lengths) (rest q s)
+pub record Ends (q : Queue) (limit start end : ℕ) : Type 0 where
+  pub fits : total (q .lengths) (undroppable q) ≤ limit → total (q .lengths) (rest q end) ≤ limit
+  pub in-queue : end ≤ size q
+  pub not-before : (s : ℕ) → start ≤ s → s < end → limit < total (q .lengths) (rest q s)
 
 ends : (q : Queue) (limit n start : ℕ) → start + n ≡ size q → Ends q limit start (until n q limit start)
 unfolding until
@@ -90,7 +91,7 @@ module _ (q : Queue) (limit : ℕ) where
   abbrev end : ℕ
   end = until (size q) q limit 0
 
-  ended : Ends q limit 0 end
+  pub ended : Ends q limit 0 end
   ended = ends q limit (size q) 0 (omega arith)
 
   -- beyond the newest that is dropped nothing more is

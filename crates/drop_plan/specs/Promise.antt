@@ -28,5 +28,9 @@ pub record Plans (q : Queue) (limit : ℕ) : Type 0 where
   pub keeps : planned q limit ≡ proposed (plan q limit) ↔ ((size q ≤ most) × (total (q .lengths) (undroppable q) ≤ limit))
   pub good : size q ≤ most → total (q .lengths) (undroppable q) ≤ limit → Good q limit (plan q limit)
 
+-- and these say all: no other proposal is good
+abbrev pub OnlyPlan : Type 0
+OnlyPlan = (q : Queue) (limit : ℕ) (proposal : List ℕ) → Good q limit proposal → proposal ≡ plan q limit
+
 abbrev pub PlannerPlans : Type 0
 PlannerPlans = (q : Queue) (limit : ℕ) → Plans q limit

@@ -13,6 +13,7 @@ use Rattle.drop_plan.specs.Check.{among}
 use Rattle.drop_plan.specs.Conditions.{Rise, _∈_}
 use Rattle.drop_plan.specs.Queue.{total}
 use Rattle.drop_plan.proofs.Members.{among-in}
+use Rattle.drop_plan.proofs.Rising.{later-above, later-rise}
 use Rattle.round_trip.specs.Demand3.{Packet, bytes, keep}
 use Rattle.plan_keeps.specs.Session.{chosen}
 
@@ -26,20 +27,6 @@ passed : (k at : ℕ) (ks : List ℕ) (ps : List Packet) → k < at → asked at
 unfolding among
 passed k at ks [] h = refl
 passed k at ks (p ∷ ps) h = rw (ne-eqb k at (λ e. omega arith), passed k (suc at) ks ps (omega arith))
-
--- those that rise after the first do so too, and lie after it
-later-rise : (k : ℕ) (ks : List ℕ) → Rise (k ∷ ks) → Rise ks
-later-rise k ks r i j l h = r (suc i) (suc j) (omega arith) (omega arith)
-
-in-at : (ks : List ℕ) (p : ℕ) → p ∈ ks → (i : ℕ) × (i < length ks) × (getD ks i 0 ≡ p)
-in-at [] p m = absurd m
-in-at (k ∷ ks) p (inl e) = (0, omega arith, sym e)
-in-at (k ∷ ks) p (inr m) = let h = in-at ks p m in (suc (h .0), omega arith, h .2)
-
-later-above : (k : ℕ) (ks : List ℕ) → Rise (k ∷ ks) → (p : ℕ) → p ∈ ks → k < p
-later-above k ks r p m =
-    let h = in-at ks p m in
-    rw (h .2) at (r 0 (suc (h .0)) (omega arith) (omega arith))
 
 not-among : (at : ℕ) (ks : List ℕ) → ((p : ℕ) → p ∈ ks → at < p) → among at ks ≡ false
 not-among at ks h = go (among at ks) refl
