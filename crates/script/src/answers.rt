@@ -3,6 +3,7 @@ use crate::decoded::put_decoded;
 use crate::events::put_event;
 use crate::order::put_order;
 use crate::output::end_answer;
+use crate::plans::put_keep;
 use crate::state::State;
 use crate::stored::put_settings;
 use script_calls::Outcome;
@@ -49,6 +50,9 @@ fn put_outcome(
         Outcome::Event(event) => put_event(text, filled, event),
         Outcome::Settings { settings, used } => put_settings(text, filled, settings, used),
         Outcome::Decoded(answer) => put_decoded(text, filled, answer, payload),
+        Outcome::Keep(count) => put_keep(text, filled, count, output),
+        Outcome::Cannot => put_words(text, filled, b"can't"),
+        Outcome::Accepted => put_words(text, filled, b"accepted"),
         _ => filled,
     }
 }

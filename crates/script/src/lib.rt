@@ -7,6 +7,7 @@ mod input;
 mod lines;
 mod order;
 mod output;
+mod plans;
 mod state;
 mod stored;
 mod turns;

@@ -5,6 +5,7 @@ use crate::enc_calls;
 use crate::kept::Codec;
 use crate::kept::Made;
 use crate::outcomes::Outcome;
+use crate::plan_calls;
 use crate::settings_calls;
 use crate::time_calls;
 use script_text::place_of;
@@ -60,12 +61,13 @@ fn make_named(
     output: &mut [u8],
     payload: &mut [u8],
 ) -> Made {
-    match place_of(b"time control enc dec settings", word(line, 0)) {
+    match place_of(b"time control enc dec settings plan", word(line, 0)) {
         0 => beside(codec, time_calls::make(line, bytes)),
         1 => beside(codec, control_calls::make(line, bytes, output)),
         2 => encode(codec, line, bytes, output),
         3 => decode(codec, line, bytes, payload),
         4 => beside(codec, settings_calls::make(line, bytes, output)),
+        5 => beside(codec, plan_calls::make(line, bytes, output)),
         _ => beside(codec, Outcome::BadLine),
     }
 }

@@ -6,6 +6,8 @@ mod dec_calls;
 mod enc_calls;
 mod kept;
 mod outcomes;
+mod plan_calls;
+mod queues;
 mod settings_calls;
 mod time_calls;
 

@@ -22,4 +22,8 @@ pub enum Outcome {
     // what a record says, and how many bytes it has
     Settings { settings: Settings, used: usize },
     Decoded(Answer),
+    // what a plan keeps: how many places, which stand in the output, four bytes a place
+    Keep(usize),
+    Cannot,
+    Accepted,
 }

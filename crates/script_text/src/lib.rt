@@ -10,9 +10,13 @@ mod words;
 
 pub use crate::calls::Call;
 pub use crate::calls::read_call;
+pub use crate::hex::Hex;
 pub use crate::hex::put_hex;
+pub use crate::hex::read_hex;
 pub use crate::names::place_of;
 pub use crate::names::put_event_name;
+pub use crate::numbers::Long;
+pub use crate::numbers::read_long;
 pub use crate::signed::put_signed;
 pub use crate::text::put;
 pub use crate::text::put_number;
@@ -21,3 +25,4 @@ pub use crate::text::put_spaced;
 pub use crate::text::put_words;
 pub use crate::words::find;
 pub use crate::words::word;
+pub use crate::words::word_count;

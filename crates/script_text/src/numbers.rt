@@ -6,8 +6,17 @@ pub enum Number {
     Bad,
 }
 
+// What a word says that is to be a number of 64 bits.
+pub enum Long {
+    Value(u64),
+    Bad,
+}
+
 // The largest number of 32 bits.
 const LARGEST: u64 = 4294967295;
+
+// The largest number of 64 bits.
+const LONGEST: u64 = 18446744073709551615;
 
 // The value of a digit, a letter of either case; 16 for any other byte.
 pub fn digit_value(byte: u8) -> u8 {
@@ -40,26 +49,49 @@ fn has_leading_zero(word: &[u8]) -> bool {
     word[0] == b'0'
 }
 
-// The number that the word is in decimal.
-pub fn read_number(word: &[u8]) -> Number {
+// The number with one digit more.
+fn with_digit(value: u64, digit: u8) -> Long {
+    if 9 < digit {
+        return Long::Bad;
+    }
+    if LONGEST / 10 < value {
+        return Long::Bad;
+    }
+    let tens = value * 10;
+    let last = digit as u64;
+    if LONGEST - tens < last {
+        return Long::Bad;
+    }
+    Long::Value(tens + last)
+}
+
+// The number of 64 bits that the word is in decimal.
+pub fn read_long(word: &[u8]) -> Long {
     if word.len() == 0 {
-        return Number::Bad;
+        return Long::Bad;
     }
     if has_leading_zero(word) {
-        return Number::Bad;
+        return Long::Bad;
     }
     let mut value: u64 = 0;
     let mut i = 0;
     while i < word.len() {
-        let digit = digit_value(word[i]);
-        if 9 < digit {
-            return Number::Bad;
-        }
-        value = value * 10 + digit as u64;
-        if LARGEST < value {
-            return Number::Bad;
-        }
+        let Long::Value(next) = with_digit(value, digit_value(word[i])) else {
+            return Long::Bad;
+        };
+        value = next;
         i += 1;
+    }
+    Long::Value(value)
+}
+
+// The number of 32 bits that the word is in decimal.
+pub fn read_number(word: &[u8]) -> Number {
+    let Long::Value(value) = read_long(word) else {
+        return Number::Bad;
+    };
+    if LARGEST < value {
+        return Number::Bad;
     }
     Number::Value(value as u32)
 }

@@ -16,6 +16,17 @@ pub fn find(bytes: &[u8], from: usize, byte: u8) -> usize
     at
 }
 
+// How many words the line has: one more than spaces.
+pub fn word_count(line: &[u8]) -> usize {
+    let mut spaces = 0;
+    let mut at = find(line, 0, b' ');
+    while at < line.len() {
+        spaces += 1;
+        at = find(line, at + 1, b' ');
+    }
+    spaces + 1
+}
+
 // The line's word at `place`, counted from 0; empty where there are fewer words.
 pub fn word<'a>(line: &'a [u8], place: usize) -> &'a [u8] {
     let mut start = 0;

@@ -1,12 +1,12 @@
--- `script_text::numbers::read_number` is safe and ends. The value so far fits 32 bits, so the next one fits 64; the measure is what is left of the word.
+-- `script_text::numbers::read_long` is safe and ends. The measure is what is left of the word.
 use Prim.Native.Nat.{_≤_, _-_}
-use borrow.Author.Needs.{needs}
 use lib.ListN.{length}
-use Rattle.script_text.proofs.numbers.read_number.Statement.{statement}
-use Rattle.script_text.proofs.numbers.read_number.Tie as tie
+use borrow.Author.Needs.{needs}
+use Rattle.script_text.proofs.numbers.read_long.Statement.{statement}
+use Rattle.script_text.proofs.numbers.read_long.Tie as tie
 
 abbrev Inv-loop : tie.InvT-loop
-Inv-loop word value₀ i₀ value i = (i ≤ length word) × (value ≤ 4294967295)
+Inv-loop word value₀ i₀ value i = i ≤ length word
 
 abbrev μ-loop : tie.MeasureT-loop
 μ-loop word value₀ i₀ value i = length word - i
@@ -29,20 +29,17 @@ shared-slice-read-digit-value c = search needs
 digit-value-requires : tie.Need-digit-value-requires Inv-loop μ-loop
 digit-value-requires c κs = search needs
 
+with-digit-requires : tie.Need-with-digit-requires Inv-loop μ-loop
+with-digit-requires c κs = search needs
+
+enum-known-next : tie.Need-enum-known-next Inv-loop μ-loop
+enum-known-next c = search needs
+
+enum-told : tie.Need-enum-told Inv-loop μ-loop
+enum-told c = search needs
+
 returns-3 : tie.Need-returns-3 Inv-loop μ-loop
 returns-3 c = search needs
-
-mul-value : tie.Need-mul-value Inv-loop μ-loop
-mul-value c = search needs
-
-cast-value : tie.Need-cast-value Inv-loop μ-loop
-cast-value c = search needs
-
-add-value : tie.Need-add-value Inv-loop μ-loop
-add-value c = search needs
-
-returns-4 : tie.Need-returns-4 Inv-loop μ-loop
-returns-4 c = search needs
 
 add-i : tie.Need-add-i Inv-loop μ-loop
 add-i c = search needs
@@ -53,14 +50,11 @@ loop-less c = search needs
 loop-again : tie.Need-loop-again Inv-loop μ-loop
 loop-again c = search needs
 
-cast-t14 : tie.Need-cast-t14 Inv-loop μ-loop
-cast-t14 c = search needs
+returns-4 : tie.Need-returns-4 Inv-loop μ-loop
+returns-4 c = search needs
 
-returns-5 : tie.Need-returns-5 Inv-loop μ-loop
-returns-5 c = search needs
-
-pub read-number-spec : {M : Type 1} → statement M
-read-number-spec =
+pub read-long-spec : {M : Type 1} → statement M
+read-long-spec =
     tie.close
     (tie.spec
     Inv-loop
@@ -71,13 +65,11 @@ read-number-spec =
     loop-holds
     shared-slice-read-digit-value
     digit-value-requires
+    with-digit-requires
+    enum-known-next
+    enum-told
     returns-3
-    mul-value
-    cast-value
-    add-value
-    returns-4
     add-i
     loop-less
     loop-again
-    cast-t14
-    returns-5)
+    returns-4)

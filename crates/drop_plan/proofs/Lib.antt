@@ -1,0 +1,10 @@
+pub mod Steps
+pub mod Filling
+pub mod Rest
+pub mod Members
+pub mod Rising
+pub mod Conditions
+pub mod Planning
+pub mod OnlyPlan
+pub mod Unique
+pub mod Samples

@@ -1,0 +1,4 @@
+pub mod Chosen
+pub mod Keeps
+pub mod Lengths
+pub mod Runs

@@ -1,0 +1,4 @@
+// Runs the script on standard input: plans, and what the check says of proposals.
+fn main() {
+    script::run();
+}
