@@ -8,6 +8,7 @@ pub mod Fitting
 pub mod FurtherOn
 pub mod Heading
 pub mod Identifying
+pub mod Numbered
 pub mod PieceWithin
 pub mod Progress
 pub mod Reached

@@ -1,0 +1,4 @@
+pub mod Cutting
+pub mod Needed
+pub mod Refusing
+pub mod Walking
