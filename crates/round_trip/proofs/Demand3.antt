@@ -19,7 +19,8 @@ use Rattle.deserializer.specs.Told.{between, outcome as telling, sized, taken, 
 use Rattle.chunk_header.specs.Limits.{maxSize}
 use Rattle.deserializer.proofs.Reached.{Reached, told-reached}
 use Rattle.fields.proofs.Tests.{never}
-use Rattle.round_trip.specs.Demand3.{Call, Demand3, HandsOut, InRange, LeavesOutDroppable, Message, Packet, Ranged, Receiver, Sending, Tell, bytes, encodes, keep, kept, last, log, longest, mayBeLeftOut, message, messageOf, receiver, resize, send, tellOf, tellFirst}
+use Rattle.stream_meaning.specs.Stream.{Message}
+use Rattle.round_trip.specs.Demand3.{Call, Demand3, HandsOut, InRange, LeavesOutDroppable, Packet, Ranged, Receiver, Sending, Tell, bytes, encodes, keep, kept, last, log, longest, mayBeLeftOut, message, messageOf, receiver, resize, send, tellOf, tellFirst}
 use Rattle.round_trip.proofs.Agreeing.{Agrees, awake, fresh-agree, handed-over, left-out}
 use Rattle.round_trip.proofs.Awaiting.{Awaits, Over, comes-by, none-left, note, uses-all}
 use Rattle.round_trip.proofs.Packets.{packet-reads}

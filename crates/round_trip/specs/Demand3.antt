@@ -14,6 +14,7 @@ use Rattle.deserializer.specs.declared.ChunkDeserializer.{ChunkDeserializer}
 use Rattle.deserializer.specs.Answer.{Listed, message as found, more, refused as not-read}
 use Rattle.deserializer.specs.Call.{Outcome as Decoded, next}
 use Rattle.deserializer.specs.Told.{Outcome as Told, Size, taken, refused as not-taken, between, made, maxRoom, outcome as telling, told}
+use Rattle.stream_meaning.specs.Stream.{Message}
 
 -- "any run of messages and chunk size changes": each call with its parameters and the output lent to it
 pub data Call : Type 0 where
@@ -26,12 +27,6 @@ encodes s (send type stream time payload forced droppable output) = serialized s
 encodes s (resize size time output) = sizeChanged s size time output
 
 -- "type, stream, timestamp and payload"
-pub record Message : Type 0 where
-  pub type : ℕ
-  pub stream : ℕ
-  pub time : ℕ
-  pub payload : List ℕ
-
 abbrev pub message : (type stream time : ℕ) → List ℕ → Message
 message type stream time payload = record { type = type; stream = stream; time = time; payload = payload }
 

@@ -5,11 +5,11 @@ use mathlib.Core.List.{List, [], _∷_, _++_, map}
 use lib.ListN.{length, set, replicate}
 use Rattle.serializer.specs.Remembered.{fresh}
 use Rattle.deserializer.specs.Told.{maxRoom}
+use Rattle.stream_meaning.specs.Stream.{Message}
 use Rattle.round_trip.specs.Demand3.{
   Call,
   send,
   resize,
-  Message,
   message,
   Tell,
   nothing,
