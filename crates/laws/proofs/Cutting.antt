@@ -65,7 +65,7 @@ module _ {S : Type 0} (t : Teller S) where
   none-arrived [] = refl
   none-arrived (n ∷ calls) = none-arrived calls
 
-  all-unread : (calls bytes : List ℕ) → bytes ++ arrived (map offer calls) ≡ bytes
+  pub all-unread : (calls bytes : List ℕ) → bytes ++ arrived (map offer calls) ≡ bytes
   all-unread calls bytes = ap (λ (l : List ℕ). bytes ++ l) (none-arrived calls) ∙ append-nil bytes
 
   same : (f g : Fed S) → f ≡ g → Same f g

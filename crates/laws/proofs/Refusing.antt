@@ -19,6 +19,19 @@ pub data Stuck {S : Type 0} (s : Stand S) : Type 0 where
   closed-now : s .decoder .closed ≢ 0 → Stuck s
   short-now : length (s .buffer) < s .decoder .room → Stuck s
 
+-- and otherwise it can go on
+pub stuck-or : {S A : Type 0} (s : Stand S) → (Stuck s → A) → (s .decoder .closed ≡ 0 → s .decoder .room ≤ length (s .buffer) → A) → A
+stuck-or {A = A} s stuck-so goes = by-use (uses s)
+  where
+    by-use : Uses s → A
+    by-use (closed n) = stuck-so (closed-now n)
+    by-use (short e l) = stuck-so (short-now l)
+    by-use (ready e l) = goes e l
+
+pub stuck-end : {S : Type 0} (s : Stand S) → Stuck s → s .decoder .closed ≡ 0 → s .decoder .room ≤ length (s .buffer) → ⊥
+stuck-end s (closed-now n) e l = n e
+stuck-end s (short-now k) e l = omega (arith, k, l)
+
 module _ {S : Type 0} (t : Teller S) where
   pub stuck-call : (s : Stand S) → Stuck s → (piece : List ℕ) → call t piece s ≡ fed [] s piece
   stuck-call s (closed-now n) piece = call-closed t piece s n
@@ -39,10 +52,6 @@ module _ {S : Type 0} (t : Teller S) where
           let n : o .deserializer .closed ≢ 0 = subst (λ (x : Outcome). x .deserializer .closed ≢ 0) (sym r) (run-refused piece (s .decoder) (s .buffer) 0 k m (ap (λ (x : Outcome). x .answer) (sym r) ∙ h)) in
           let c : call t piece s .stand ≡ silent o (s .seen) .stand = ap (λ (f : Fed S). f .stand) (call-is t piece s o refl) ∙ ap (λ (a : Listed). answered t a o (s .seen) .stand) h in
           subst (λ (x : Stand S). Stuck x) (sym c) (closed-now n)
-
-  pub stuck-end : (s : Stand S) → Stuck s → s .decoder .closed ≡ 0 → s .decoder .room ≤ length (s .buffer) → ⊥
-  stuck-end s (closed-now n) e l = n e
-  stuck-end s (short-now k) e l = omega (arith, k, l)
 
   none-refused : (moves : List Move) (s : Stand S) (unread : List ℕ) → feed t moves s unread .stand .decoder .closed ≡ 0
       → feed t moves s unread .stand .decoder .room ≤ length (feed t moves s unread .stand .buffer)

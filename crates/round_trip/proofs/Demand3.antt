@@ -1,213 +1,43 @@
--- Demand 3: encoder and decoder agree from the start, each kept packet hands out its message and leaves them agreeing, and the bytes may be cut anywhere.
-use Prim.Native.Nat.{ℕ, _+_, _-_, _≤_, _<_, max}
-use mathlib.Core.Path.{_≡_, refl, sym, ap, subst, _∙_}
-use mathlib.Core.Bool.{Bool, true, false}
-use mathlib.Core.List.{List, [], _∷_, _++_, map, append-nil}
+-- Demand 3 is a line that breaks after its last byte.
+use Prim.Native.Nat.{ℕ}
+use mathlib.Core.List.{List, map}
+use mathlib.Core.Path.{_≡_, sym, ap, subst, _∙_}
 use native.Mathlib.Omega.{arith}
-use lib.ListN.{length, take, drop, drop-of-length-le}
-use lib.Seq.{sets, sets-eq, length-sets, take-append-seam, drop-at}
-use borrow.Author.Tests.{eq-eqb, ne-eqb, le-ltb}
-use Rattle.serializer.specs.declared.ChunkSerializer.{ChunkSerializer}
-use Rattle.serializer.specs.Answer.{refused as not-written}
-use Rattle.serializer.specs.Header.{header}
-use Rattle.serializer.specs.Remembered.{fresh, packetOf, previous, remember}
-use Rattle.deserializer.specs.declared.ChunkDeserializer.{ChunkDeserializer}
-use Rattle.byte_machine.specs.declared.reader.Reader.{Reader}
-use Rattle.byte_machine.specs.declared.reader.Stage.the-variants.{Csid}
-use Rattle.deserializer.specs.Call.{run}
-use Rattle.deserializer.specs.Told.{between, outcome as telling, sized, taken, told, maxRoom, made}
-use Rattle.chunk_header.specs.Limits.{maxSize}
-use Rattle.deserializer.proofs.Reached.{Reached, told-reached}
-use Rattle.fields.proofs.Tests.{never}
-use Rattle.stream_meaning.specs.Stream.{Message}
-use Rattle.round_trip.specs.Demand3.{Call, Demand3, HandsOut, InRange, LeavesOutDroppable, Packet, Ranged, Receiver, Sending, Tell, bytes, encodes, keep, kept, last, log, longest, mayBeLeftOut, message, messageOf, receiver, resize, send, tellOf, tellFirst}
-use Rattle.round_trip.proofs.Agreeing.{Agrees, awake, fresh-agree, handed-over, left-out}
-use Rattle.round_trip.proofs.Awaiting.{Awaits, Over, comes-by, none-left, note, uses-all}
-use Rattle.round_trip.proofs.Packets.{packet-reads}
-use Rattle.round_trip.proofs.Reading.{Reads}
-use Rattle.round_trip.proofs.Sent.{Accepted, Answers, Taken, accepts, answers, body, encoded, fits, long-as, refuses, sizeAfter, time-less}
-use Rattle.round_trip.proofs.Taking.{At}
+use lib.ListN.{length, take}
+use lib.Seq.{take-all}
+use Rattle.serializer.specs.Remembered.{fresh}
+use Rattle.deserializer.specs.Told.{between}
+use Rattle.round_trip.specs.Breaking.{Breaks, brokenAfter, whole}
+use Rattle.round_trip.specs.Demand3.{Begins, Demand3, HandsOut, Note, Packet, Receiver, bytes, handed, kept, last, log, receiver}
+use Rattle.round_trip.proofs.Breaking.{breaking}
+use Rattle.round_trip.proofs.Broken.{whole-all}
 
--- between messages
-is-between : (r : Reader) → r .stage ≡ Csid → r .message .id ≡ 0 → between r ≡ true
-is-between r s m = rw (s, eq-eqb (r .message .id) 0 m)
+module _ (r : Receiver) (packets : List Packet) (n : ℕ) (ns : List ℕ) (same : brokenAfter n r ≡ r) (all-whole : whole n packets ≡ packets)
+    (uncut : take n (bytes packets) ≡ bytes packets) (b : Breaks r packets n ns) where
+  abbrev notes-for : List Packet → List Note
+  notes-for ps = map (λ (p : Packet). handed (p .message)) ps
 
--- a size told between messages is taken
-told-taken : (d : ChunkDeserializer) (size : ℕ) → d .closed ≡ 0 → 0 < size → size ≤ maxSize → between (d .reader) ≡ true → told d size ≡ telling taken (sized d size)
-unfolding told
-told-taken d size c p q b = rw (eq-eqb (d .closed) 0 c, ne-eqb size 0 (omega (arith, p)), le-ltb maxSize size q, b)
-
--- the packet of a call that the encoder took
-abbrev packetFor : ChunkSerializer → Call → Packet
-packetFor s c = record { bytes = packetOf s (encoded c) (body c); message = messageOf c; tell = tellOf c }
-
--- the receiver of packets
-abbrev receiving : ChunkDeserializer → List ℕ → List Packet → Receiver
-receiving d buffer packets = record { decoder = d; buffer = buffer; unread = bytes packets; tells = map (λ (p : Packet). p .tell) packets }
-
--- what is told after a packet's message is taken, and leaves encoder and decoder agreeing
-record Tells (s : ChunkSerializer) (c : Call) (later : List Tell) (d : ChunkDeserializer) : Type 0 where
-  takes : tellFirst (tellOf c ∷ later) d .answer ≡ taken
-  agrees : Agrees (remember s (encoded c) (sizeAfter s c)) (tellFirst (tellOf c ∷ later) d .deserializer)
-  room : tellFirst (tellOf c ∷ later) d .deserializer .room ≡ d .room
-
-tells-on : (s : ChunkSerializer) (d : ChunkDeserializer) (c : Call) (later : List Tell) (d′ : ChunkDeserializer) → Agrees s d → Taken c → Ranged c
-    → At d (header (encoded c) (previous s (encoded c))) 0 0 d′
-    → Tells s c later d′
-tells-on s d (send type stream time payload forced droppable output) later d′ a t r at = record {
-  takes = refl;
-  agrees = handed-over s d a _ d′ d′ (s .«max_chunk_size») at (at .reached) refl refl refl (at .size ∙ a .size) (a .some) (r .2);
-  room = refl;
-}
-tells-on s d (resize size time output) later d′ a t r at =
-    let e = told-taken d′ size (at .closed ∙ a .closed) (t .0) (t .1) (is-between (d′ .reader) (at .stage) (at .message)) in
-    let reached : Reached (sized d′ size) = rw e at (told-reached d′ size (at .reached)) in
-    record {
-      takes = rw e;
-      agrees = rw e (handed-over s d a _ d′ (sized d′ size) size at reached refl refl refl refl (t .0) r);
-      room = rw e;
-    }
-
--- the message of a call, by the numbers that are encoded
-message-is : (c : Call) → messageOf c ≡ message (encoded c .«type_id») (encoded c .«stream_id») (encoded c .timestamp .value) (body c)
-message-is (send type stream time payload forced droppable output) = refl
-message-is (resize size time output) = refl
-
--- the first bytes of a buffer after they were stored
-stored-first : (buffer xs : List ℕ) → length xs ≤ length buffer → take (length xs) (sets buffer 0 xs) ≡ xs
-stored-first buffer xs h = rw (sets-eq xs buffer 0 (omega (arith, h))) (take-append-seam xs (drop (0 + length xs) buffer))
-
--- a packet that is kept is to come, and then what is to come after it
-module _ (s : ChunkSerializer) (d : ChunkDeserializer) (c : Call) (buffer : List ℕ) (ps : List Packet) (a : Agrees s d) (r : Ranged c) (o : Accepted s c (encodes s c))
-    (fit : length (body c) ≤ d .room) (room : d .room ≤ length buffer) where
-  abbrev p : Packet
-  p = packetFor s c
-
-  abbrev buffer′ : List ℕ
-  buffer′ = sets buffer 0 (body c)
-
-  reads : Reads d (header (encoded c) (previous s (encoded c))) (0 + length (p .bytes)) buffer′ (run (p .bytes ++ bytes ps) d buffer 0)
-  reads =
-      let size : max 1 (s .«max_chunk_size») ≡ d .«max_chunk_size» = omega (arith, a .size, a .some) in
-      let some : 0 < d .«max_chunk_size» = omega (arith, a .size, a .some) in
-      rw size
-      (packet-reads d (encoded c) (previous s (encoded c)) (body c) (bytes ps) (awake s d a (encoded c)) (λ f. fits c (previous s (encoded c)) f r (o .most)) some (long-as c) (o .some)
-      (omega (arith, long-as c, fit))
-      buffer
-      0)
-
-  coming : (w : Reads d (header (encoded c) (previous s (encoded c))) (0 + length (p .bytes)) buffer′ (run (p .bytes ++ bytes ps) d buffer 0))
-      → Tells s c (map (λ (q : Packet). q .tell) ps) (w .decoder)
-      → ((d″ : ChunkDeserializer) → Agrees (remember s (encoded c) (sizeAfter s c)) d″ → d″ .room ≡ d .room → Awaits ps (receiving d″ buffer′ ps))
-      → Awaits (p ∷ ps) (receiving d buffer (p ∷ ps))
-  coming w t then = record {
-    ready = record { closed = a .closed; room = room };
-    length-of = encoded c .length;
-    used-of = 0 + length (p .bytes);
-    decoder = w .decoder;
-    buffer = buffer′;
-    runs = rw (message-is c) (w .runs);
-    payload = rw (message-is c, long-as c) (stored-first buffer (body c) (omega (arith, fit, room)));
-    takes = t .takes;
-    then = rw (drop-at (p .bytes) (bytes ps) (0 + length (p .bytes)) (omega arith)) (then _ (t .agrees) (t .room ∙ w .at .room));
+  unbroken : HandsOut r packets ns
+  unbroken = record {
+    in-order = subst (λ (ps : List Packet). Begins (log r ns) (notes-for ps)) all-whole (subst (λ (x : Receiver). Begins (log x ns) (notes-for (whole n packets))) same (b .in-order));
+    all = λ e. ap (λ (x : Receiver). log x ns) (sym same) ∙ b .all (ap (λ (x : Receiver). last x ns .unread) same ∙ e) ∙ ap notes-for all-whole;
+    ends = λ e. (
+      ap (λ (x : Receiver). between (last x ns .decoder .reader)) (sym same) ∙ b .ends (ap bytes all-whole ∙ sym uncut) (ap (λ (x : Receiver). last x ns .unread) same ∙ e),
+      ap (λ (x : Receiver). last x ns .decoder .closed) (sym same) ∙ b .still-open,
+    );
+    uses = λ h. ap (λ (x : Receiver). last x ns .unread) (sym same) ∙ b .uses (rw uncut h);
   }
 
-  pub packet-awaited : ((d″ : ChunkDeserializer) → Agrees (remember s (encoded c) (sizeAfter s c)) d″ → d″ .room ≡ d .room → Awaits ps (receiving d″ buffer′ ps))
-      → Awaits (p ∷ ps) (receiving d buffer (p ∷ ps))
-  packet-awaited then = coming reads (tells-on s d c (map (λ (q : Packet). q .tell) ps) (reads .decoder) a (o .size) r (reads .at)) then
+-- after all of the bytes nothing is lacking
+uncut-all : (ps : List Packet) → take (length (bytes ps)) (bytes ps) ≡ bytes ps
+uncut-all ps = take-all (length (bytes ps)) (bytes ps) (omega arith)
 
--- what is kept of a call that is refused, and of one that is taken
-kept-none : (s : ChunkSerializer) (x : Sending) (xs : List Sending) (number : ℕ) → encodes s (x .call) .answer ≡ not-written number → encodes s (x .call) .serializer ≡ s
-    → kept s (x ∷ xs) ≡ kept s xs
-kept-none s x xs number e f = rw (e, f) (by-kept (x .kept))
-  where
-    by-kept : (t : Bool) → keep t [] ++ kept s xs ≡ kept s xs
-    by-kept true = refl
-    by-kept false = refl
-
-kept-sent : (s : ChunkSerializer) (c : Call) (t : Bool) (xs : List Sending) → Accepted s c (encodes s c)
-    → kept s (record { call = c; kept = t } ∷ xs) ≡ keep t (packetFor s c ∷ []) ++ kept (remember s (encoded c) (sizeAfter s c)) xs
-kept-sent s c t xs o = rw (o .answer, o .output, o .serializer)
-
--- only a message that was marked so may be left out, and it leaves the chunk size
-left-droppable : (c : Call) → mayBeLeftOut c ≡ true → encoded c .«can_be_dropped» ≡ true
-left-droppable (send type stream time payload forced droppable output) e = e
-left-droppable (resize size time output) e = e
-
-left-size : (s : ChunkSerializer) (c : Call) → mayBeLeftOut c ≡ true → s .«max_chunk_size» ≡ sizeAfter s c
-left-size s (send type stream time payload forced droppable output) e = refl
-left-size s (resize size time output) e = never e
-
-body-is : (c : Call) → messageOf c .payload ≡ body c
-body-is c = ap (λ (m : Message). m .payload) (message-is c)
-
--- what is kept of a run is to come, where encoder and decoder agree at its start
-abbrev Kept : List Sending → Type 0
-Kept xs =
-    (s : ChunkSerializer) (d : ChunkDeserializer) (buffer : List ℕ) → Agrees s d → longest (kept s xs) ≤ d .room → d .room ≤ length buffer
-    → Awaits (kept s xs) (receiving d buffer (kept s xs))
-
-module _ (c : Call) (xs : List Sending) (r : Ranged c) (later : Kept xs) (s : ChunkSerializer) (d : ChunkDeserializer) (buffer : List ℕ) (a : Agrees s d) (room : d .room ≤ length buffer) where
-  abbrev s′ : ChunkSerializer
-  s′ = remember s (encoded c) (sizeAfter s c)
-
-  keeps : Accepted s c (encodes s c) → longest (packetFor s c ∷ kept s′ xs) ≤ d .room
-      → Awaits (packetFor s c ∷ kept s′ xs) (receiving d buffer (packetFor s c ∷ kept s′ xs))
-  keeps o fit =
-      let l : length (messageOf c .payload) ≡ length (body c) = ap length (body-is c) in
-      packet-awaited s d c buffer (kept s′ xs) a r o (omega (arith, l, fit)) room
-      (λ d″ agree same. later s′ d″ (sets buffer 0 (body c)) agree (omega (arith, same, fit)) (rw (length-sets buffer 0 (body c), same) room))
-
-  leaves : mayBeLeftOut c ≡ true → longest (kept s′ xs) ≤ d .room → Awaits (kept s′ xs) (receiving d buffer (kept s′ xs))
-  leaves e fit = later s′ d buffer (left-out s d a (encoded c) (sizeAfter s c) (left-droppable c e) (time-less c r) (left-size s c e)) fit room
-
-  -- what is kept, by what became of the call
-  abbrev Come : List Packet → Type 0
-  Come ps = longest ps ≤ d .room → Awaits ps (receiving d buffer ps)
-
-  sent-comes : (t : Bool) → (t ≡ false → mayBeLeftOut c ≡ true) → Accepted s c (encodes s c) → Come (keep t (packetFor s c ∷ []) ++ kept s′ xs)
-  sent-comes true e o = keeps o
-  sent-comes false e o = leaves (e refl)
-
-  call-comes : (t : Bool) → (t ≡ false → mayBeLeftOut c ≡ true) → Answers s c (encodes s c) → Come (kept s (record { call = c; kept = t } ∷ xs))
-  call-comes t e (refuses number p q) = subst Come (sym (kept-none s record { call = c; kept = t } xs number p q)) (λ fit. later s d buffer a fit room)
-  call-comes t e (accepts o) = subst Come (sym (kept-sent s c t xs o)) (sent-comes t e o)
-
-kept-comes : (xs : List Sending) → InRange xs → LeavesOutDroppable xs → Kept xs
-kept-comes [] r l s d buffer a fit room = record { ready = record { closed = a .closed; room = room }; unread = refl; between = is-between (d .reader) (a .stage) (a .message) }
-kept-comes (x ∷ xs) r l s d buffer a fit room =
-    call-comes (x .call) xs (r .0) (kept-comes xs (r .1) (l .1)) s d buffer a room (x .kept) (l .0) (answers s (x .call)) fit
-
--- what is to come is handed out by any calls
-hands-out : (ps : List Packet) (r : Receiver) (schedule : List ℕ) → Awaits ps r → r .unread ≡ bytes ps → HandsOut r ps schedule
-hands-out ps r schedule a e =
-    let c = comes-by schedule ps r a in
-    record {
-      in-order = record { missing = map note (c .left); joined = c .notes-are };
-      all = λ u. all-handed (c .left) (none-left (c .left) (last r schedule) (c .awaits) u) (c .notes-are);
-      ends = λ u. over (c .left) (none-left (c .left) (last r schedule) (c .awaits) u) (c .awaits);
-      uses = λ enough. drop-of-length-le (last r schedule .unread) {i = 0} (omega (arith, uses-all schedule ps r a, ap length e, enough));
-    }
-  where
-    all-handed : (left : List Packet) → left ≡ [] → log r schedule ++ map note left ≡ map note ps → log r schedule ≡ map note ps
-    all-handed left z q = sym (append-nil (log r schedule)) ∙ (rw z at q)
-
-    over : (left : List Packet) → left ≡ [] → Awaits left (last r schedule) → (between (last r schedule .decoder .reader) ≡ true) × (last r schedule .decoder .closed ≡ 0)
-    over left z w = let v : Over (last r schedule) = rw z at w in (v .between, v .ready .closed)
-
-made-room : (room : ℕ) → 1 ≤ room → room ≤ maxRoom → made room .deserializer .room ≡ room
-unfolding made
-made-room room p q = rw (ne-eqb room 0 (omega (arith, p)), le-ltb maxRoom room q)
-
--- all that is kept is to come to a fresh decoder
-pub kept-awaited : (xs : List Sending) (room : ℕ) (buffer : List ℕ) → InRange xs → LeavesOutDroppable xs → 1 ≤ room → room ≤ maxRoom
-    → longest (kept fresh xs) ≤ room
-    → room ≤ length buffer
-    → Awaits (kept fresh xs) (receiver room buffer (kept fresh xs))
-kept-awaited xs room buffer r l some most fit long =
-    let m = made-room room some most in
-    kept-comes xs r l fresh (made room .deserializer) buffer (fresh-agree room some most) (rw m fit) (rw m long)
+pub same-receiver : (room : ℕ) (buffer : List ℕ) (ps : List Packet) → brokenAfter (length (bytes ps)) (receiver room buffer ps) ≡ receiver room buffer ps
+same-receiver room buffer ps =
+    ap (λ (u : List ℕ). record { decoder = receiver room buffer ps .decoder; buffer = buffer; unread = u; tells = receiver room buffer ps .tells }) (uncut-all ps)
 
 pub demand-3 : Demand3
 demand-3 xs room buffer schedule r l some most fit long =
-    hands-out (kept fresh xs) (receiver room buffer (kept fresh xs)) schedule (kept-awaited xs room buffer r l some most fit long) refl
+    let ps : List Packet = kept fresh xs in
+    unbroken (receiver room buffer ps) ps (length (bytes ps)) schedule (same-receiver room buffer ps) (whole-all ps) (uncut-all ps)
+    (breaking xs room buffer (length (bytes ps)) schedule r l some most fit long)

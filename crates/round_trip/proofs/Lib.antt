@@ -1,12 +1,15 @@
 pub mod Agreeing
-pub mod Awaiting
+pub mod Breaking
+pub mod Broken
 pub mod Demand3
 pub mod First
 pub mod Held
+pub mod Kept
 pub mod Later
 pub mod Packets
 pub mod Pieces
 pub mod Reading
+pub mod Receiving
 pub mod Runs
 pub mod Sent
 pub mod Taking

@@ -1,6 +1,6 @@
 -- Every cutting into pieces comes to an end, since a call that is offered a byte uses one: so demand 3 covers it.
 use Prim.Native.Nat.{ℕ, zero, suc, _+_, _≤_, _<_}
-use mathlib.Core.Path.{_≡_, sym, ap, _∙_}
+use mathlib.Core.Path.{_≡_, sym, ap, subst, _∙_}
 use mathlib.Core.List.{List, [], _∷_, _++_}
 use native.Mathlib.Omega.{arith}
 use lib.ListN.{length, drop, length-append, length-drop}
@@ -13,8 +13,10 @@ use Rattle.deserializer.proofs.Progress.{run-uses, uses-a-byte}
 use Rattle.deserializer.proofs.Runs.{next-runs}
 use Rattle.round_trip.specs.Demand3.{InRange, LeavesOutDroppable, Packet, Receiver, Sending, after, bytes, kept, last, longest, offered, receiver}
 use Rattle.round_trip.specs.Pieces.{Fed, Offers, joined, next, none, offer}
-use Rattle.round_trip.proofs.Awaiting.{Awaits, Ready, goes, is-ready, past-used}
-use Rattle.round_trip.proofs.Demand3.{demand-3, kept-awaited}
+use Rattle.round_trip.proofs.Breaking.{always-ready}
+use Rattle.round_trip.proofs.Demand3.{demand-3, same-receiver}
+use Rattle.round_trip.proofs.Kept.{kept-awaited}
+use Rattle.round_trip.proofs.Receiving.{Always, Ready, past-used}
 
 -- a call over a piece: it uses a byte at least, and no more than the piece has
 module _ (r : Receiver) (b : ℕ) (piece others : List ℕ) (k : Ready r) (e : r .unread ≡ (b ∷ piece) ++ others) where
@@ -43,18 +45,17 @@ record Offered (r : Receiver) (pieces : List (List ℕ)) : Type 0 where
   offers : Offers r pieces schedule
   ends : last r schedule .unread ≡ []
 
-offered-all : (bound : ℕ) (packets : List Packet) (r : Receiver) (pieces : List (List ℕ)) → Awaits packets r → r .unread ≡ joined pieces
+offered-all : (bound : ℕ) (r : Receiver) (pieces : List (List ℕ)) → Always r → r .unread ≡ joined pieces
     → length (joined pieces) + length pieces ≤ bound
     → Offered r pieces
-offered-all bound packets r [] a e h = record { schedule = []; offers = none; ends = e }
-offered-all zero packets r (piece ∷ pieces) a e h = absurd (omega arith)
-offered-all (suc bound) packets r ([] ∷ pieces) a e h =
-    let w = offered-all bound packets r pieces a e (omega (arith, h)) in
+offered-all bound r [] a e h = record { schedule = []; offers = none; ends = e }
+offered-all zero r (piece ∷ pieces) a e h = absurd (omega arith)
+offered-all (suc bound) r ([] ∷ pieces) a e h =
+    let w = offered-all bound r pieces a e (omega (arith, h)) in
     record { schedule = w .schedule; offers = next (w .offers); ends = w .ends }
-offered-all (suc bound) packets r ((b ∷ piece) ∷ pieces) a e h =
-    let k = is-ready packets r a in
-    let g = goes packets r (length (b ∷ piece)) a in
-    let w = offered-all bound (g .left) (after r (length (b ∷ piece))) (drop (used (offered r (length (b ∷ piece)) .answer)) (b ∷ piece) ∷ pieces) (g .awaits) (left-unread r b piece (joined pieces) k e) (left-less r b piece (joined pieces) k e (suc (length pieces)) bound h) in
+offered-all (suc bound) r ((b ∷ piece) ∷ pieces) a e h =
+    let k = a [] in
+    let w = offered-all bound (after r (length (b ∷ piece))) (drop (used (offered r (length (b ∷ piece)) .answer)) (b ∷ piece) ∷ pieces) (λ ns. a (length (b ∷ piece) ∷ ns)) (left-unread r b piece (joined pieces) k e) (left-less r b piece (joined pieces) k e (suc (length pieces)) bound h) in
     record { schedule = length (b ∷ piece) ∷ w .schedule; offers = offer (w .offers); ends = w .ends }
 
 -- however the kept bytes are cut into pieces, each kept message comes out
@@ -64,5 +65,8 @@ pub pieces-fed : (xs : List Sending) (room : ℕ) (buffer : List ℕ) (pieces : 
     → joined pieces ≡ bytes (kept fresh xs)
     → Fed (receiver room buffer (kept fresh xs)) (kept fresh xs) pieces
 pieces-fed xs room buffer pieces r l some most fit long e =
-    let w = offered-all (length (joined pieces) + length pieces) (kept fresh xs) (receiver room buffer (kept fresh xs)) pieces (kept-awaited xs room buffer r l some most fit long) (sym e) (omega arith) in
+    let always : Always (receiver room buffer (kept fresh xs)) =
+    subst Always (same-receiver room buffer (kept fresh xs)) (always-ready (kept fresh xs) room buffer (length (bytes (kept fresh xs))) (kept-awaited xs room buffer r l some most fit long))
+    in
+    let w = offered-all (length (joined pieces) + length pieces) (receiver room buffer (kept fresh xs)) pieces always (sym e) (omega arith) in
     record { schedule = w .schedule; offers = w .offers; all = demand-3 xs room buffer (w .schedule) r l some most fit long .all (w .ends); ends = w .ends }
