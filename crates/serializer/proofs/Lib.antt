@@ -1,3 +1,4 @@
+pub mod Bounds
 pub mod Chunk
 pub mod Later
 pub mod Laws

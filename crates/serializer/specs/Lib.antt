@@ -4,3 +4,5 @@ pub mod Message
 pub mod Packet
 pub mod Remembered
 pub mod Serialize
+-- how long a packet is, and how many chunks
+pub mod Bounds
