@@ -16,9 +16,9 @@ use Rattle.serializer.specs.declared.format.Message.{Message}
 use Rattle.serializer.specs.Answer.{Answer as Written, wrote, refused as not-written}
 use Rattle.serializer.specs.Message.{message as to-encode}
 use Rattle.serializer.specs.Packet.{roundedUp}
-use Rattle.serializer.specs.Remembered.{packetOf, previous, sizeOf}
+use Rattle.serializer.specs.Remembered.{packetOf, sizeOf}
 use Rattle.serializer.specs.Serialize.{accept, refuse, sent, serialized, sizeChanged, sizeMessage}
-use Rattle.serializer.proofs.Laws.{packet-most}
+use Rattle.serializer.proofs.Bounds.{bounds}
 use Rattle.drop_plan.specs.Queue.{lengthAt}
 use Rattle.round_trip.specs.Demand3.{Call, Packet, encodes, packetsOf, resize, send}
 use Rattle.plan_keeps.specs.Session.{LengthsFit, Queued, queueOf, queued}
@@ -45,7 +45,8 @@ small-sent s m payload size output p h = go (ltb (length output) (length (packet
     go true = tt
     go false =
         let one : 0 < sizeOf s = omega arith in
-        let a = packet-most (sizeOf s) m payload (previous s m) one p in
+        let a = bounds .most s m payload in
+        let n = bounds .count s m payload in
         let b = rounded-most (length payload) (sizeOf s) one in
         omega arith
 

@@ -4,7 +4,8 @@ use mathlib.Core.Bool.{true, false}
 use mathlib.Core.List.{List, [], _∷_}
 use lib.ListN.{replicate}
 use Rattle.drop_plan.specs.Queue.{Queue, queue}
-use Rattle.round_trip.specs.Demand3.{Call, Message, message, resize, send}
+use Rattle.round_trip.specs.Demand3.{Call, message, resize, send}
+use Rattle.stream_meaning.specs.Stream.{Message}
 use Rattle.plan_keeps.specs.Session.{Stretch}
 
 abbrev output : List ℕ
