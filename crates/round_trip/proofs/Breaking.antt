@@ -7,8 +7,7 @@ use native.Mathlib.Omega.{arith}
 use lib.ListN.{length, replicate, take, drop-of-length-le}
 use Rattle.serializer.specs.Remembered.{fresh}
 use Rattle.deserializer.specs.Told.{between, made}
-use Rattle.stream_meaning.specs.Stream.{Message}
-use Rattle.laws.specs.Cutting.{Spent, feed, nothing-unread, offer}
+use Rattle.laws.specs.Cutting.{feed, nothing-unread, offer}
 use Rattle.laws.specs.Walk.{Fed, Stand, before, walk}
 use Rattle.laws.proofs.Cutting.{all-unread, can-be-fed, feed-is-walk, feed-walks}
 use Rattle.laws.proofs.Refusing.{open-refused-nothing, stuck-end, stuck-or, stuck-stays}

@@ -1,12 +1,11 @@
 -- The kept bytes cut after n: the packets that arrived whole are handed out, one call each, and a proper beginning of one more only asks for more.
-use Prim.Native.Nat.{ℕ, zero, suc, _+_, _-_, _≤_, _<_}
+use Prim.Native.Nat.{ℕ, _+_, _-_, _≤_, _<_}
 use mathlib.Core.Bool.{Bool, true, false, cond}
 use mathlib.Core.List.{List, [], _∷_, _++_, append-nil, map}
 use mathlib.Core.Path.{_≡_, refl, sym, ap, subst, _∙_}
 use native.Mathlib.Omega.{arith}
-use lib.Dec.{leb}
 use lib.ListN.{length, take, drop, drop-of-length-le, length-append, length-take, take-append-drop}
-use lib.Seq.{drop-append-seam, take-nil}
+use lib.Seq.{drop-append-seam, take-append-add, take-append-le, take-nil}
 use borrow.Author.Tests.{le-leb, leb-false, leb-true}
 use Rattle.deserializer.specs.declared.ChunkDeserializer.{ChunkDeserializer}
 use Rattle.deserializer.specs.Answer.{Listed, message as found, more, refused, used}
@@ -19,7 +18,7 @@ use Rattle.stream_meaning.specs.Stream.{Message}
 use Rattle.laws.specs.Walk.{Fed, Stand, before, call, called, fed, tells, walk}
 use Rattle.laws.proofs.Walking.{call-is, call-walks}
 use Rattle.round_trip.specs.Demand3.{Packet, bytes}
-use Rattle.round_trip.specs.Breaking.{whole}
+use Rattle.round_trip.specs.Breaking.{hasArrived, whole}
 use Rattle.round_trip.proofs.Kept.{Awaits, Coming}
 use Rattle.round_trip.proofs.Receiving.{AllTaken, Telling, sizeOf, teller}
 
@@ -93,18 +92,9 @@ module _ (p : Packet) (ps : List Packet) (d : ChunkDeserializer) (buffer : List 
         by-answer (found type stream time long n) e = no-answer (rw e)
         by-answer (refused number n) e = no-answer (rw e)
 
--- a cut within a first part, and one after it
-take-within : (n : ℕ) (xs ys : List ℕ) → n < length xs → take n (xs ++ ys) ≡ take n xs
-take-within zero xs ys h = refl
-take-within (suc n) [] ys h = absurd (omega (arith, h))
-take-within (suc n) (x ∷ xs) ys h = ap (λ (l : List ℕ). x ∷ l) (take-within n xs ys (omega (arith, h)))
-
+-- a cut after a first part
 take-past : (n : ℕ) (xs ys : List ℕ) → length xs ≤ n → take n (xs ++ ys) ≡ xs ++ take (n - length xs) ys
-take-past n [] ys h = let e : n ≡ n - 0 = omega arith in ap (λ (k : ℕ). take k ys) e
-take-past zero (x ∷ xs) ys h = absurd (omega (arith, h))
-take-past (suc n) (x ∷ xs) ys h =
-    let e : n - length xs ≡ suc n - length (x ∷ xs) = omega arith in
-    ap (λ (l : List ℕ). x ∷ l) (take-past n xs ys (omega (arith, h)) ∙ ap (λ (k : ℕ). xs ++ take k ys) e)
+take-past n xs ys h = let e : n ≡ length xs + (n - length xs) = omega (arith, h) in ap (λ (k : ℕ). take k (xs ++ ys)) e ∙ take-append-add xs ys (n - length xs)
 
 handed-first : (p : Packet) (packets : List Packet) (f : Fed Telling) → HasHandedOut f packets → HasHandedOut (before (p .message ∷ []) f) (p ∷ packets)
 handed-first p packets f h = record {
@@ -120,20 +110,20 @@ pub walk-broken : (ps : List Packet) (d : ChunkDeserializer) (buffer : List ℕ)
 unfolding walk
 walk-broken [] d buffer answers n a t = rw (take-nil n) (record { exactly = refl; used = refl; still-open = a .0; still-long = a .1; sizes-taken = t })
 walk-broken (p ∷ ps) d buffer answers n c t =
-    by-test (leb (length (p .bytes)) n) refl
+    by-test (hasArrived n p) refl
     (walk-broken ps (tells (sizeOf (p .tell)) (c .decoder) .deserializer) (c .buffer-after) (tells (sizeOf (p .tell)) (c .decoder) .answer ∷ answers) (n - length (p .bytes)) (c .then) (c .takes, t))
   where
-    by-test : (b : Bool) → leb (length (p .bytes)) n ≡ b
+    by-test : (b : Bool) → hasArrived n p ≡ b
         → HasHandedOut (walk teller (take (n - length (p .bytes)) (bytes ps)) (s′ p ps d buffer answers c)) (whole (n - length (p .bytes)) ps)
         → HasHandedOut (walk teller (take n (p .bytes ++ bytes ps)) (stand d buffer (p ∷ ps) answers)) (cond b (p ∷ whole (n - length (p .bytes)) ps) [])
     by-test true e later =
         subst (λ (f : Fed Telling). HasHandedOut f (p ∷ whole (n - length (p .bytes)) ps))
-        (sym (ap (λ (l : List ℕ). walk teller l (stand d buffer (p ∷ ps) answers)) (take-past n (p .bytes) (bytes ps) (leb-true _ _ e))
+        (sym (ap (λ (l : List ℕ). walk teller l (stand d buffer (p ∷ ps) answers)) (take-past n (p .bytes) (bytes ps) (leb-true _ n e))
         ∙ whole-walks p ps d buffer answers c (take (n - length (p .bytes)) (bytes ps))))
         (handed-first p _ _ later)
     by-test false e later =
-        let short : n < length (p .bytes) = leb-false _ _ e in
-        subst (λ (l : List ℕ). HasHandedOut (walk teller l (stand d buffer (p ∷ ps) answers)) []) (sym (take-within n (p .bytes) (bytes ps) short))
+        let short : n < length (p .bytes) = leb-false _ n e in
+        subst (λ (l : List ℕ). HasHandedOut (walk teller l (stand d buffer (p ∷ ps) answers)) []) (sym (take-append-le n (p .bytes) (bytes ps) (omega (arith, short))))
         (part-walks p ps d buffer answers c (take n (p .bytes)) (drop n (p .bytes)) (take-append-drop n (p .bytes)) (rw length-take (omega (arith, short))) t)
 
 -- where the cut lies between two packets, the decoder stands between messages
@@ -146,16 +136,16 @@ pub walk-between : (ps : List Packet) (d : ChunkDeserializer) (buffer : List ℕ
 unfolding walk
 walk-between [] d buffer answers n a e = rw (take-nil n) (a .2)
 walk-between (p ∷ ps) d buffer answers n c e =
-    by-test (leb (length (p .bytes)) n) refl e
+    by-test (hasArrived n p) refl e
     (walk-between ps (tells (sizeOf (p .tell)) (c .decoder) .deserializer) (c .buffer-after) (tells (sizeOf (p .tell)) (c .decoder) .answer ∷ answers) (n - length (p .bytes)) (c .then))
   where
-    by-test : (b : Bool) → leb (length (p .bytes)) n ≡ b → bytes (cond b (p ∷ whole (n - length (p .bytes)) ps) []) ≡ take n (p .bytes ++ bytes ps)
+    by-test : (b : Bool) → hasArrived n p ≡ b → bytes (cond b (p ∷ whole (n - length (p .bytes)) ps) []) ≡ take n (p .bytes ++ bytes ps)
         → (bytes (whole (n - length (p .bytes)) ps) ≡ take (n - length (p .bytes)) (bytes ps)
         → between (walk teller (take (n - length (p .bytes)) (bytes ps)) (s′ p ps d buffer answers c) .stand .decoder .reader) ≡ true)
         → between (walk teller (take n (p .bytes ++ bytes ps)) (stand d buffer (p ∷ ps) answers) .stand .decoder .reader) ≡ true
     by-test true e w later =
         let rest : List ℕ = take (n - length (p .bytes)) (bytes ps) in
-        let past : take n (p .bytes ++ bytes ps) ≡ p .bytes ++ rest = take-past n (p .bytes) (bytes ps) (leb-true _ _ e) in
+        let past : take n (p .bytes ++ bytes ps) ≡ p .bytes ++ rest = take-past n (p .bytes) (bytes ps) (leb-true _ n e) in
         ap (λ (l : List ℕ). between (walk teller l (stand d buffer (p ∷ ps) answers) .stand .decoder .reader)) past
         ∙ ap (λ (f : Fed Telling). between (f .stand .decoder .reader)) (whole-walks p ps d buffer answers c rest)
         ∙ later (both-begin (p .bytes) (bytes (whole (n - length (p .bytes)) ps)) rest (w ∙ past))

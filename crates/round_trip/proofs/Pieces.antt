@@ -11,7 +11,7 @@ use Rattle.deserializer.specs.Call.{next as called}
 use Rattle.deserializer.specs.Told.{maxRoom}
 use Rattle.deserializer.proofs.Progress.{run-uses, uses-a-byte}
 use Rattle.deserializer.proofs.Runs.{next-runs}
-use Rattle.round_trip.specs.Demand3.{InRange, LeavesOutDroppable, Packet, Receiver, Sending, after, bytes, kept, last, longest, offered, receiver}
+use Rattle.round_trip.specs.Demand3.{InRange, LeavesOutDroppable, Receiver, Sending, after, bytes, kept, last, longest, offered, receiver}
 use Rattle.round_trip.specs.Pieces.{Fed, Offers, joined, next, none, offer}
 use Rattle.round_trip.proofs.Breaking.{always-ready}
 use Rattle.round_trip.proofs.Demand3.{demand-3, same-receiver}

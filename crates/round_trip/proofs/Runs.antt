@@ -5,7 +5,7 @@ use mathlib.Core.List.{List, [], _∷_, map}
 use mathlib.Core.Path.{_≡_, refl, sym, ap}
 use native.Mathlib.Omega.{arith}
 use lib.Dec.{lit≤}
-use lib.ListN.{length, getD}
+use lib.ListN.{length, getD, take}
 use Rattle.fields.specs.Endian.{bigEndian, littleEndian, gather}
 use Rattle.chunk_header.specs.Basic.{csid}
 use Rattle.chunk_header.specs.Layout.{chunkBytes}
@@ -39,6 +39,7 @@ use Rattle.round_trip.specs.Demand3.{
   offers,
   HandsOut,
 }
+use Rattle.round_trip.specs.Breaking.{brokenAfter}
 use Rattle.round_trip.proofs.Demand3.{demand-3}
 use Rattle.round_trip.specs.Runs.{
   trip,
@@ -97,6 +98,14 @@ trip-hands-out-byte-by-byte = refl
 pub trip-hands-out-message-by-message : log (receiver room buffer (kept fresh trip)) message-by-message ≡ map handed trip-messages
 unfolding computing
 trip-hands-out-message-by-message = refl
+
+-- where the line breaks: before the first byte, one byte before the end of the second packet, and at its end
+pub trip-breaks :
+    (log (brokenAfter 0 (receiver room buffer (kept fresh trip))) byte-by-byte ≡ [])
+    × (log (brokenAfter 21 (receiver room buffer (kept fresh trip))) byte-by-byte ≡ map handed (take 1 trip-messages))
+    × (log (brokenAfter 22 (receiver room buffer (kept fresh trip))) byte-by-byte ≡ map handed (take 2 trip-messages))
+unfolding computing
+trip-breaks = (refl, refl, refl)
 
 pub trip-ends :
     (between (last (receiver room buffer (kept fresh trip)) trip-schedule .decoder .reader) ≡ true)

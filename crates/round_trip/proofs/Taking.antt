@@ -21,7 +21,7 @@ use Rattle.deserializer.specs.Answer.{message as found}
 use Rattle.deserializer.specs.Call.{after, outcome, run}
 use Rattle.deserializer.specs.Chunk.{got, header}
 use Rattle.deserializer.proofs.Reached.{Reached}
-use Rattle.deserializer.proofs.Taken.{Leaves, Takes, done, goes, goes-on, hands-out, leaves, taking}
+use Rattle.deserializer.proofs.Taken.{Leaves, done, goes, goes-on, hands-out, leaves, taking}
 use Rattle.round_trip.proofs.Held.{Held, Spare, still-spare}
 use Rattle.round_trip.proofs.Wire.{Fits, Taken, rowFor}
 

@@ -1,6 +1,6 @@
 -- "If the kept bytes stop after any byte, the decoder has handed out exactly the kept messages whose last byte arrived, and refused nothing."
-use Prim.Native.Nat.{ℕ, suc, _-_, _≤_}
-use mathlib.Core.Bool.{cond, true}
+use Prim.Native.Nat.{ℕ, _-_, _≤_}
+use mathlib.Core.Bool.{Bool, cond, true}
 use mathlib.Core.List.{List, [], _∷_, map}
 use mathlib.Core.Path.{_≡_}
 use lib.Dec.{leb}
@@ -9,10 +9,14 @@ use Rattle.serializer.specs.Remembered.{fresh}
 use Rattle.deserializer.specs.Told.{between, maxRoom}
 use Rattle.round_trip.specs.Demand3.{Begins, InRange, LeavesOutDroppable, Packet, Receiver, Sending, bytes, handed, kept, last, log, longest, offers, receiver}
 
--- the packets whose last byte is among the first n bytes
+-- a packet's last byte is among the first n bytes
+abbrev pub hasArrived : (n : ℕ) → Packet → Bool
+hasArrived n p = leb (length (p .bytes)) n
+
+-- the packets of which that holds
 abbrev pub whole : (n : ℕ) → List Packet → List Packet
 whole n [] = []
-whole n (p ∷ ps) = cond (leb (length (p .bytes)) n) (p ∷ whole (n - length (p .bytes)) ps) []
+whole n (p ∷ ps) = cond (hasArrived n p) (p ∷ whole (n - length (p .bytes)) ps) []
 
 -- the receiver to which only the first n bytes come
 abbrev pub brokenAfter : (n : ℕ) → Receiver → Receiver
