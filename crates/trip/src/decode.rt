@@ -18,6 +18,8 @@ pub struct Decoding {
     pub walk: Walk,
     // how many messages were handed out
     pub count: usize,
+    // whether each answer is written
+    is_told: bool,
 }
 
 // What came of a way in.
@@ -36,12 +38,13 @@ const TURNS: usize = 10000;
 
 impl Decoding {
     // Before the first piece, of pieces of at most `piece` bytes.
-    fn new(piece: usize) -> Self {
+    fn new(piece: usize, is_told: bool) -> Self {
         let made = ChunkDeserializer::new(ROOM);
         let decoder = made.deserializer;
         Decoding {
             walk: Walk::new(decoder, Cut::even(piece)),
             count: 0,
+            is_told,
         }
     }
 
@@ -61,7 +64,9 @@ impl Decoding {
     // With a new chunk size told.
     fn tell(mut self, size: u32) -> Self {
         let walk = self.walk;
-        print_telling(size, walk.telling(size));
+        if self.is_told {
+            print_telling(size, walk.telling(size));
+        }
         self.walk = walk.tell(size);
         self
     }
@@ -103,7 +108,9 @@ fn take_message(
     places: &[u8],
     sent: &mut [u8],
 ) -> Decoding {
-    print_message(type_id, stream_id, time, payload);
+    if so_far.is_told {
+        print_message(type_id, stream_id, time, payload);
+    }
     let is_kept = is_kept_one(
         so_far.count,
         type_id,
@@ -176,15 +183,16 @@ fn turn(
     take_answer(next, answer, payload, places, sent)
 }
 
-// Offers all bytes of the wire in pieces.
-fn decode_all(
+// Offers all bytes of the wire in pieces, and writes each answer where it `is_told` to.
+pub fn decode_all(
     wire: &[u8],
     places: &[u8],
     piece: usize,
+    is_told: bool,
     payload: &mut [u8],
     sent: &mut [u8],
 ) -> Decoding {
-    let mut so_far = Decoding::new(piece);
+    let mut so_far = Decoding::new(piece, is_told);
     let mut turns = TURNS;
     while 0 < turns {
         so_far = turn(so_far, wire, places, payload, sent);
@@ -217,7 +225,7 @@ pub fn decode(
     sent: &mut [u8],
 ) -> Arrived {
     print_line(b"pieces of ", piece as u64);
-    let end = decode_all(wire, places, piece, payload, sent);
+    let end = decode_all(wire, places, piece, true, payload, sent);
     let walk = end.walk;
     let may_tell = walk.may_tell();
     print_used(walk.used, wire.len(), may_tell);

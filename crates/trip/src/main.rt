@@ -1,11 +1,14 @@
 // A trip: calls of an encoder, of which some are refused and some packets are left out; the other packets cut into pieces, and
-// offered to a decoder; and what comes out beside what was kept.
+// offered to a decoder; and what comes out beside what was kept. Then the line breaks, after each number of bytes.
+mod breaking;
 mod decode;
 mod encode;
 mod first_bytes;
 mod kept;
 mod plan;
 
+use crate::breaking::Broken;
+use crate::breaking::break_all;
 use crate::decode::Arrived;
 use crate::decode::decode;
 use crate::encode::encode_all;
@@ -47,13 +50,30 @@ fn arrive(bytes: &[u8], kept: &[u8], payload: &mut [u8], sent: &mut [u8]) -> Arr
     worse(ones, worse(sevens, whole))
 }
 
+// Writes how the broken lines ended: those of 0 to `length` bytes.
+fn print_broken(broken: Broken, count: usize, length: usize) {
+    print_numbered(b"broken after 0 to ", length as u64);
+    if broken.is_good && broken.count == count {
+        print(b" bytes: every byte used, nothing refused\n");
+    } else {
+        print(b" bytes: failed\n");
+    }
+}
+
+// Makes the way in of a line that holds, and of those that break.
+fn come(is_good: bool, bytes: &[u8], kept: &[u8], payload: &mut [u8], sent: &mut [u8]) {
+    let arrived = arrive(bytes, kept, payload, sent);
+    print_end(is_good, arrived, kept.len(), bytes.len());
+    let broken = break_all(bytes, kept, payload, sent);
+    print_broken(broken, kept.len(), bytes.len());
+}
+
 // Makes the trip.
 fn run(wire: &mut [u8], places: &mut [u8], sent: &mut [u8], output: &mut [u8], payload: &mut [u8]) {
     let encoded = encode_all(wire, places, sent, output);
     let bytes = part(wire, 0, encoded.filled);
     let kept = part(places, 0, encoded.count);
-    let arrived = arrive(bytes, kept, payload, sent);
-    print_end(encoded.is_good, arrived, kept.len(), bytes.len());
+    come(encoded.is_good, bytes, kept, payload, sent);
 }
 
 fn main() {

@@ -6,10 +6,10 @@ use Rattle.trip.proofs.decode.decode_all.Statement.{statement}
 use Rattle.trip.proofs.decode.decode_all.Tie as tie
 
 abbrev Inv-loop : tie.InvT-loop
-Inv-loop wire places piece payload₀ sent₀ so-far₀ turns₀ payload sent so-far turns = (length payload ≡ length payload₀) × (length sent ≡ length sent₀)
+Inv-loop wire places piece is-told payload₀ sent₀ so-far₀ turns₀ payload sent so-far turns = (length payload ≡ length payload₀) × (length sent ≡ length sent₀)
 
 abbrev μ-loop : tie.MeasureT-loop
-μ-loop wire places piece payload₀ sent₀ so-far₀ turns₀ payload sent so-far turns = turns
+μ-loop wire places piece is-told payload₀ sent₀ so-far₀ turns₀ payload sent so-far turns = turns
 
 new-requires : tie.Need-new-requires Inv-loop μ-loop
 new-requires c κs = search needs
