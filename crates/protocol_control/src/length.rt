@@ -31,10 +31,13 @@ pub fn kind_of(control: ProtocolControl) -> Kind
     ensures { λ r. ⌜ r ≡ kindOf control ⌝ }
 {
     match control {
-        ProtocolControl::SetChunkSize { size } => Kind::SetChunkSize,
-        ProtocolControl::Abort { stream_id } => Kind::Abort,
-        ProtocolControl::Acknowledgement { sequence_number } => Kind::Acknowledgement,
-        ProtocolControl::WindowAcknowledgement { size } => Kind::WindowAcknowledgement,
-        ProtocolControl::SetPeerBandwidth { size, limit_type } => Kind::SetPeerBandwidth,
+        ProtocolControl::SetChunkSize { size: _ } => Kind::SetChunkSize,
+        ProtocolControl::Abort { stream_id: _ } => Kind::Abort,
+        ProtocolControl::Acknowledgement { sequence_number: _ } => Kind::Acknowledgement,
+        ProtocolControl::WindowAcknowledgement { size: _ } => Kind::WindowAcknowledgement,
+        ProtocolControl::SetPeerBandwidth {
+            size: _,
+            limit_type: _,
+        } => Kind::SetPeerBandwidth,
     }
 }

@@ -23,9 +23,12 @@ pub fn is_outside(control: ProtocolControl) -> bool
 {
     match control {
         ProtocolControl::SetChunkSize { size } => is_no_size(size),
-        ProtocolControl::Abort { stream_id } => false,
-        ProtocolControl::Acknowledgement { sequence_number } => false,
-        ProtocolControl::WindowAcknowledgement { size } => false,
-        ProtocolControl::SetPeerBandwidth { size, limit_type } => LARGEST_LIMIT_TYPE < limit_type,
+        ProtocolControl::Abort { stream_id: _ } => false,
+        ProtocolControl::Acknowledgement { sequence_number: _ } => false,
+        ProtocolControl::WindowAcknowledgement { size: _ } => false,
+        ProtocolControl::SetPeerBandwidth {
+            size: _,
+            limit_type,
+        } => LARGEST_LIMIT_TYPE < limit_type,
     }
 }
