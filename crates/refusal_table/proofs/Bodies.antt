@@ -72,14 +72,14 @@ module _ (bytes : List ℕ) where
   unfolding reading
   body-no-other = then-one (short bytes) (gives 15) unknown-only .no-other
 
--- what is written: 5, and the output as before
-abbrev IsWritten : ℕ → Outcome → Type 0
+-- what is written: a number, and the output as before
+abbrev pub IsWritten : ℕ → Outcome → Type 0
 IsWritten k o = o .answer ≡ not-written k
 
-write-gives : (output : List ℕ) → Gives IsWritten (λ o. o .output ≡ output) 5 (refuse 5 output)
-write-gives output = record { is = refl; only = λ m h. cc; left = refl }
+pub write-gives : (n : ℕ) (output : List ℕ) → Gives IsWritten (λ o. o .output ≡ output) n (refuse n output)
+write-gives n output = record { is = refl; only = λ m h. cc; left = refl }
 
-written : (n k : ℕ) → wrote n ≢ not-written k
+pub written : (n k : ℕ) → wrote n ≢ not-written k
 written n k h = let z : _≡_ {A = ℕ} 0 1 = cc in omega arith
 
 module _ (e : UserControlEvent) (output : List ℕ) where
@@ -88,12 +88,12 @@ module _ (e : UserControlEvent) (output : List ℕ) where
 
   write-among : Among IsWritten (λ o. o .output ≡ output) (5 ∷ []) (writing (body e) output)
   unfolding writing
-  write-among = then-one (lacks output (body e)) (write-gives output) none-written
+  write-among = then-one (lacks output (body e)) (write-gives 5 output) none-written
 
   pub write-5 : Row (writing (body e) output .answer ≡ not-written 5) (length output < length (body e)) (writing (body e) output .output ≡ output)
   unfolding writing
   write-5 = record {
-    given = here (write-gives output) (less (length output) (length (body e))) none-written refl;
+    given = here (write-gives 5 output) (less (length output) (length (body e))) none-written refl;
     leaves = write-among .left 5;
   }
 

@@ -2,6 +2,7 @@ pub mod Bodies
 pub mod Calls
 pub mod Chunks
 pub mod Closes
+pub mod ControlBodies
 pub mod Deciding
 pub mod Encoder
 pub mod Fates

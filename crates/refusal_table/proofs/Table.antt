@@ -5,6 +5,7 @@ use Rattle.deserializer.proofs.Runs.{next-closed}
 use Rattle.refusal_table.specs.Table.{ClosedStays, NoOther, RefusalTable}
 use Rattle.refusal_table.proofs.Bodies.{body-15, body-16, body-no-other, write-5, write-no-other}
 use Rattle.refusal_table.proofs.Calls.{call-7, call-at, call-refused}
+use Rattle.refusal_table.proofs.ControlBodies.{control-15, control-16, control-no-other, put-5, put-16, put-no-other}
 use Rattle.refusal_table.proofs.Encoder.{length-1, length-2, length-no-other, message-rows, size-rows}
 use Rattle.refusal_table.proofs.Histories.{open-or-closed}
 use Rattle.refusal_table.proofs.Settling.{settles-9, settles-10, settles-11, settles-12, settles-13, settles-14}
@@ -23,6 +24,7 @@ table = record {
   serialize-5 = λ s m payload output. message-rows s m payload output .third;
   change-size-5 = λ s size time output. size-rows s size time output .third;
   write-body-5 = write-5;
+  write-control-5 = put-5;
   new-6 = new-6;
   call-7 = call-7;
   tell-size-8 = λ came d o size. told-rows came d o size .third;
@@ -33,7 +35,10 @@ table = record {
   call-13 = call-at _ 13 _ (omega arith) (omega arith) settles-13;
   call-14 = call-at _ 14 _ (omega arith) (omega arith) settles-14;
   read-body-15 = body-15;
+  read-control-15 = control-15;
   read-body-16 = body-16;
+  read-control-16 = control-16;
+  write-control-16 = put-16;
 }
 
 pub closed-stays : ClosedStays
@@ -46,6 +51,8 @@ no-other = record {
   change-size = λ s size time output. size-rows s size time output .no-other;
   write-body = write-no-other;
   read-body = body-no-other;
+  write-control = put-no-other;
+  read-control = control-no-other;
   new = new-no-other;
   tell-size = λ came d o size. told-rows came d o size .no-other;
   call = λ came d o input payload b k n h. ⊎-elim inl (λ c. inr (c .0)) (call-refused came d o input payload b k n h);

@@ -1,4 +1,5 @@
--- When 8 to 16 are given, as the table has it: 8 to 14 of the chunks that have come to a decoder and of one that begins after them, 15 and 16 of a body.
+-- When 8 to 16 are given, as the table has it: 8 to 14 of the chunks that have come to a decoder and of one that begins after them, 15 and 16 of a body
+-- (document 01's user control bodies, and document 02's protocol control bodies).
 use Prim.Native.Nat.{ℕ, _≤_, _<_}
 use mathlib.Core.List.{List, [], _∷_, _++_}
 use mathlib.Core.Logic.{_≢_, _⊎_}
@@ -6,6 +7,22 @@ use mathlib.Core.Option.{none}
 use mathlib.Core.Path.{_≡_}
 use lib.ListN.{length}
 use Rattle.user_control.specs.Reading.{codeIn}
+use Rattle.protocol_control.specs.declared.Kind.{Kind}
+use Rattle.protocol_control.specs.declared.Kind.the-variants.{
+  SetChunkSize as set-chunk-size,
+  Abort as abort,
+  Acknowledgement as acknowledgement,
+  WindowAcknowledgement as window-acknowledgement,
+  SetPeerBandwidth as set-peer-bandwidth,
+}
+use Rattle.protocol_control.specs.declared.ProtocolControl.{ProtocolControl}
+use Rattle.protocol_control.specs.declared.ProtocolControl.the-variants.{
+  SetChunkSize,
+  Abort,
+  Acknowledgement,
+  WindowAcknowledgement,
+  SetPeerBandwidth,
+}
 use Rattle.chunk_header.specs.Layout.{Chunk, Header, type0, type1, type2, type3, Extended, absent, present, basicBytes, headerBytes, extendedBytes, format}
 use Rattle.stream_meaning.specs.Connection.{Item, opened, own, streams}
 use Rattle.stream_meaning.specs.Said.{saidOn}
@@ -101,3 +118,22 @@ fifteen bytes =
 -- "control code unknown"
 abbrev pub sixteen : List ℕ → Type 0
 sixteen bytes = ¬ OneOf (codeIn bytes) (0 ∷ 1 ∷ 2 ∷ 3 ∷ 4 ∷ 6 ∷ 7 ∷ 31 ∷ 32 ∷ [])
+
+-- document 02, Three: "a short body", which has 4 bytes, or 5 for a bandwidth
+abbrev pub fewerThan : Kind → ℕ
+fewerThan set-chunk-size = 4
+fewerThan abort = 4
+fewerThan acknowledgement = 4
+fewerThan window-acknowledgement = 4
+fewerThan set-peer-bandwidth = 5
+
+abbrev pub shortBody : Kind → (bytes : List ℕ) → Type 0
+shortBody k bytes = length bytes < fewerThan k
+
+-- "a number outside its limits": "size 1 to 2147483647, bandwidth limit 0, 1 or 2"
+abbrev pub outsideLimits : ProtocolControl → Type 0
+outsideLimits (SetChunkSize size) = (size ≡ 0) ⊎ (2147483647 < size)
+outsideLimits (Abort stream) = ⊥
+outsideLimits (Acknowledgement sequence) = ⊥
+outsideLimits (WindowAcknowledgement size) = ⊥
+outsideLimits (SetPeerBandwidth size limit) = 2 < limit

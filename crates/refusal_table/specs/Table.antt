@@ -4,17 +4,23 @@ use mathlib.Core.List.{List, [], _∷_}
 use mathlib.Core.Logic.{_↔_, _≢_, _⊎_}
 use mathlib.Core.Path.{_≡_}
 use lib.ListN.{length}
-use Rattle.fields.specs.Endian.{Bytes, bigEndian}
+use Rattle.fields.specs.Endian.{Bytes}
 use Rattle.fields.specs.Writing.{writing}
 use Rattle.fields.specs.Writing.{refused as not-written}
 use Rattle.user_control.specs.declared.UserControlEvent.{UserControlEvent}
 use Rattle.user_control.specs.Answer.{refused as no-body}
 use Rattle.user_control.specs.Body.{body}
 use Rattle.user_control.specs.Reading.{reading}
+use Rattle.protocol_control.specs.declared.Kind.{Kind}
+use Rattle.protocol_control.specs.declared.ProtocolControl.{ProtocolControl}
+use Rattle.protocol_control.specs.Answer.{refused as no-control}
+use Rattle.protocol_control.specs.Body.{body as control-body}
+use Rattle.protocol_control.specs.Putting.{putting}
+use Rattle.protocol_control.specs.Reading.{controlIn, reading as control-reading}
 use Rattle.serializer.specs.declared.ChunkSerializer.{ChunkSerializer}
 use Rattle.serializer.specs.declared.format.Message.{Message}
 use Rattle.serializer.specs.Answer.{refused as no-packet}
-use Rattle.serializer.specs.Serialize.{Outcome as Encoded, needed, serialized, sizeChanged, sizeMessage}
+use Rattle.serializer.specs.Serialize.{Outcome as Encoded, needed, serialized, sizeBody, sizeChanged, sizeMessage}
 use Rattle.serializer.specs.Remembered.{packetOf}
 use Rattle.chunk_header.specs.Layout.{Chunk}
 use Rattle.deserializer.specs.declared.ChunkDeserializer.{ChunkDeserializer}
@@ -24,7 +30,7 @@ use Rattle.deserializer.specs.Told.{fresh, made, outcome as telling, refused as
 use Rattle.stream_meaning.specs.Connection.{Item, streams}
 use Rattle.stream_meaning.specs.Feeding.{Sign}
 use Rattle.stream_meaning.specs.Said.{saidOn}
-use Rattle.refusal_table.specs.Conditions.{eight, nine, ten, eleven, twelve, thirteen, fourteen, fifteen, sixteen, basic, head, headFor12, type}
+use Rattle.refusal_table.specs.Conditions.{eight, nine, ten, eleven, twelve, thirteen, fourteen, fifteen, sixteen, basic, head, headFor12, outsideLimits, shortBody, type}
 use Rattle.refusal_table.specs.History.{Closed, Made, Open, Read, Settled}
 use Rattle.refusal_table.specs.Terms.{OneOf, Row, _unless_}
 
@@ -43,7 +49,7 @@ ChangeSize k Holds = (s : ChunkSerializer) (size time : ℕ) (output : List ℕ)
 
 -- the packet of a size change
 abbrev pub sizePacket : ChunkSerializer → ℕ → ℕ → List ℕ
-sizePacket s size time = packetOf s (sizeMessage time) (bigEndian 4 size)
+sizePacket s size time = packetOf s (sizeMessage time) (sizeBody size)
 
 -- .. at the bodies' ..
 abbrev pub WriteBody : ℕ → (UserControlEvent → List ℕ → Type 0) → Type 0
@@ -51,6 +57,12 @@ WriteBody k Holds = (e : UserControlEvent) (output : List ℕ) → Row (writing 
 
 abbrev pub ReadBody : ℕ → (List ℕ → Type 0) → Type 0
 ReadBody k Holds = (bytes : List ℕ) → reading bytes ≡ no-body k ↔ Holds bytes
+
+abbrev pub WriteControl : ℕ → (ProtocolControl → List ℕ → Type 0) → Type 0
+WriteControl k Holds = (c : ProtocolControl) (output : List ℕ) → Row (putting c output .answer ≡ not-written k) (Holds c output) (putting c output .output ≡ output)
+
+abbrev pub ReadControl : ℕ → (Kind → List ℕ → Type 0) → Type 0
+ReadControl k Holds = (kind : Kind) (bytes : List ℕ) → control-reading kind bytes ≡ no-control k ↔ Holds kind bytes
 
 -- .. and at the decoder's, where it is open
 abbrev pub New : ℕ → (ℕ → Type 0) → Type 0
@@ -91,6 +103,7 @@ pub record RefusalTable : Type 0 where
   pub serialize-5 : Serialize 5 (λ s m payload output. length output < length (packetOf s m payload) unless ((length payload ≡ 0) ⊎ (16777215 < length payload)))
   pub change-size-5 : ChangeSize 5 (λ s size time output. length output < length (sizePacket s size time) unless ((size ≡ 0) ⊎ (2147483647 < size)))
   pub write-body-5 : WriteBody 5 (λ e output. length output < length (body e))
+  pub write-control-5 : WriteControl 5 (λ c output. length output < length (control-body c) unless outsideLimits c)
   -- 6 | room is 0 or over 16777215 | a decoder closed with 6
   pub new-6 : New 6 (λ room. (room ≡ 0) ⊎ (16777215 < room))
   -- 7 | payload buffer shorter than the room | all as before, 0 used
@@ -111,8 +124,13 @@ pub record RefusalTable : Type 0 where
   pub call-14 : CallAt head 14 (λ room items c. fourteen items c room unless (nine items c ⊎ ten items c ⊎ eleven items c ⊎ twelve items c ⊎ thirteen items c))
   -- 15 | control body under 2 bytes, or a known code with fewer bytes than it needs | nothing written
   pub read-body-15 : ReadBody 15 fifteen
+  -- document 02: and a short protocol control body
+  pub read-control-15 : ReadControl 15 shortBody
   -- 16 | control code unknown | nothing written
   pub read-body-16 : ReadBody 16 (λ bytes. sixteen bytes unless fifteen bytes)
+  -- document 02: and a number of a protocol control body outside its limits
+  pub read-control-16 : ReadControl 16 (λ kind bytes. outsideLimits (controlIn kind bytes) unless shortBody kind bytes)
+  pub write-control-16 : WriteControl 16 (λ c output. outsideLimits c)
 
 -- "A closed decoder answers its own number to every later call, uses 0 bytes and changes nothing"
 pub record ClosedStays : Type 0 where
@@ -133,6 +151,8 @@ pub record NoOther : Type 0 where
       → OneOf k (3 ∷ 4 ∷ 5 ∷ [])
   pub write-body : (e : UserControlEvent) (output : List ℕ) (k : ℕ) → writing (body e) output .answer ≡ not-written k → OneOf k (5 ∷ [])
   pub read-body : (bytes : List ℕ) (k : ℕ) → reading bytes ≡ no-body k → OneOf k (15 ∷ 16 ∷ [])
+  pub write-control : (c : ProtocolControl) (output : List ℕ) (k : ℕ) → putting c output .answer ≡ not-written k → OneOf k (16 ∷ 5 ∷ [])
+  pub read-control : (kind : Kind) (bytes : List ℕ) (k : ℕ) → control-reading kind bytes ≡ no-control k → OneOf k (15 ∷ 16 ∷ [])
   pub new : (room k : ℕ) → made room .answer ≡ no-size k → OneOf k (6 ∷ [])
   pub tell-size : (came : List Sign) (d : ChunkDeserializer) → Open came d → (size k : ℕ) → told d size .answer ≡ no-size k
       → OneOf k (3 ∷ 4 ∷ 8 ∷ [])

@@ -4,12 +4,11 @@ use mathlib.Core.Bool.{Bool, true, false}
 use mathlib.Core.List.{List, [], _∷_, _++_, map}
 use mathlib.Core.Path.{_≡_}
 use lib.ListN.{length, take, drop}
-use Rattle.fields.specs.Endian.{bigEndian}
 use Rattle.serializer.specs.declared.ChunkSerializer.{ChunkSerializer}
 use Rattle.serializer.specs.Answer.{Answer as Written, wrote, refused as not-written}
 use Rattle.serializer.specs.Message.{message as to-encode}
 use Rattle.serializer.specs.Remembered.{fresh}
-use Rattle.serializer.specs.Serialize.{Outcome as Encoded, serialized, sizeChanged}
+use Rattle.serializer.specs.Serialize.{Outcome as Encoded, serialized, sizeBody, sizeChanged}
 use Rattle.deserializer.specs.declared.ChunkDeserializer.{ChunkDeserializer}
 use Rattle.deserializer.specs.Answer.{Listed, message as found, more, refused as not-read}
 use Rattle.deserializer.specs.Call.{Outcome as Decoded, next}
@@ -33,7 +32,7 @@ message type stream time payload = record { type = type; stream = stream; time =
 -- the message of a call, "each accepted size change's own among them", read off its parameters
 abbrev pub messageOf : Call → Message
 messageOf (send type stream time payload forced droppable output) = message type stream time payload
-messageOf (resize size time output) = message 1 0 time (bigEndian 4 size)
+messageOf (resize size time output) = message 1 0 time (sizeBody size)
 
 -- what the decoder is told straight after a message
 pub data Tell : Type 0 where

@@ -1,4 +1,5 @@
 // What lines answer, as text.
+use crate::bodies::put_control;
 use crate::decoded::put_decoded;
 use crate::events::put_event;
 use crate::order::put_order;
@@ -48,6 +49,7 @@ fn put_outcome(
         Outcome::Compared(distance) => put_order(text, filled, distance),
         Outcome::Distance(distance) => put_signed(text, filled, distance),
         Outcome::Event(event) => put_event(text, filled, event),
+        Outcome::Control(control) => put_control(text, filled, control),
         Outcome::Settings { settings, used } => put_settings(text, filled, settings, used),
         Outcome::Decoded(answer) => put_decoded(text, filled, answer, payload),
         Outcome::Keep(count) => put_keep(text, filled, count, output),

@@ -1,6 +1,7 @@
 // Runs a script of the codec's calls: one call a line on standard input, one answer a line on
 // standard output.
 mod answers;
+mod bodies;
 mod decoded;
 mod events;
 mod input;

@@ -1,4 +1,5 @@
 // The calls that lines are.
+use crate::body_calls;
 use crate::control_calls;
 use crate::dec_calls;
 use crate::enc_calls;
@@ -61,13 +62,14 @@ fn make_named(
     output: &mut [u8],
     payload: &mut [u8],
 ) -> Made {
-    match place_of(b"time control enc dec settings plan", word(line, 0)) {
+    match place_of(b"time control enc dec settings plan body", word(line, 0)) {
         0 => beside(codec, time_calls::make(line, bytes)),
         1 => beside(codec, control_calls::make(line, bytes, output)),
         2 => encode(codec, line, bytes, output),
         3 => decode(codec, line, bytes, payload),
         4 => beside(codec, settings_calls::make(line, bytes, output)),
         5 => beside(codec, plan_calls::make(line, bytes, output)),
+        6 => beside(codec, body_calls::make(line, bytes, output)),
         _ => beside(codec, Outcome::BadLine),
     }
 }

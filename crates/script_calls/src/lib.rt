@@ -1,5 +1,6 @@
 // The calls of a script's lines, made on a codec that is kept from line to line. A test tool: it is proved safe and ending, and
 // promises nothing further.
+mod body_calls;
 mod calls;
 mod control_calls;
 mod dec_calls;

@@ -1,5 +1,6 @@
 // What becomes of a line.
 use deserializer::Answer;
+use protocol_control::ProtocolControl;
 use settings::Settings;
 use user_control::UserControlEvent;
 
@@ -19,6 +20,7 @@ pub enum Outcome {
     Compared(i64),
     Distance(i64),
     Event(UserControlEvent),
+    Control(ProtocolControl),
     // what a record says, and how many bytes it has
     Settings { settings: Settings, used: usize },
     Decoded(Answer),

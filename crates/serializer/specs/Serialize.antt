@@ -5,9 +5,10 @@ use mathlib.Core.List.{List, [], _∷_}
 use lib.Dec.{ltb, eqb}
 use lib.ListN.{length}
 use Rattle.fields.specs.Cases.{_when_, first}
-use Rattle.fields.specs.Endian.{bigEndian}
 use Rattle.fields.specs.Output.{over}
 use Rattle.chunk_header.specs.Limits.{maxLength, maxSize}
+use Rattle.protocol_control.specs.declared.ProtocolControl.the-variants.{SetChunkSize}
+use Rattle.protocol_control.specs.Body.{body}
 use Rattle.serializer.specs.declared.ChunkSerializer.{ChunkSerializer}
 use Rattle.serializer.specs.declared.Serialized.{Serialized}
 use Rattle.serializer.specs.declared.format.Message.{Message}
@@ -48,12 +49,16 @@ serialized s m payload output =
 abbrev pub sizeMessage : (time : ℕ) → Message
 sizeMessage time = message 1 0 time 4 true false
 
+-- the body of Set Chunk Size
+abbrev pub sizeBody : (size : ℕ) → List ℕ
+sizeBody size = body (SetChunkSize size)
+
 -- "size change at the encoder 3, 4, 5"; "cut by the old size; the new size holds afterwards"
 unfoldable pub sizeChanged : ChunkSerializer → (size time : ℕ) → (output : List ℕ) → Outcome
 sizeChanged s size time output =
     first (refuse s output 3 when eqb size 0
     ∷ refuse s output 4 when ltb maxSize size
-    ∷ []) (sent s (sizeMessage time) (bigEndian 4 size) size output)
+    ∷ []) (sent s (sizeMessage time) (sizeBody size) size output)
 
 -- what a message takes, were the output long enough
 unfoldable pub needed : ChunkSerializer → Message → (payload : List ℕ) → Answer

@@ -1,0 +1,4 @@
+// Runs the script on standard input: protocol control bodies, read and written.
+fn main() {
+    script::run();
+}

@@ -1,0 +1,5 @@
+pub mod Body
+pub mod Limits
+pub mod Answer
+pub mod Reading
+pub mod Putting
