@@ -13,6 +13,7 @@ use Rattle.chunk_header.specs.Basic.{csid}
 use Rattle.byte_machine.specs.declared.reader.Reader.{Reader}
 use Rattle.byte_machine.specs.declared.reader.Stage.{Stage}
 use Rattle.byte_machine.specs.declared.reader.Stage.the-variants.{Csid, CsidSecond, CsidThird, InitialTimestamp, MessageLength, MessageTypeId, MessageStreamId, ExtendedTimestamp, MessagePayload}
+use Rattle.byte_machine.specs.Reader.{inPayload}
 use Rattle.byte_machine.specs.Rows.{find, seek}
 use Rattle.byte_machine.specs.Step.{basicBy, stepped}
 use Rattle.header_in_place.specs.Byte.{bytesOf, keptOf}
@@ -97,6 +98,18 @@ lacks-again (suc (suc (suc (suc (suc zero))))) n l a b h = absurd (b refl)
 lacks-again (suc (suc (suc (suc (suc (suc zero)))))) n l a b h = refl
 lacks-again (suc (suc (suc (suc (suc (suc (suc zero))))))) n l a b h = refl
 lacks-again (suc (suc (suc (suc (suc (suc (suc (suc s)))))))) n l a b h = absurd (omega (arith, h))
+
+pub not-payload : (s n l : ℕ) → s < 8 → inPayload (stageFrom s n l) ≡ false
+unfolding stageFrom
+not-payload zero n l h = refl
+not-payload (suc zero) n l h = refl
+not-payload (suc (suc zero)) n l h = refl
+not-payload (suc (suc (suc zero))) n l h = refl
+not-payload (suc (suc (suc (suc zero)))) n l h = refl
+not-payload (suc (suc (suc (suc (suc zero))))) n l h = refl
+not-payload (suc (suc (suc (suc (suc (suc zero)))))) n l h = refl
+not-payload (suc (suc (suc (suc (suc (suc (suc zero))))))) n l h = refl
+not-payload (suc (suc (suc (suc (suc (suc (suc (suc s)))))))) n l h = absurd (omega (arith, h))
 
 -- a byte of a basic header
 pub basic-at : (st : Stage) (room size : ℕ) (rows : List ℕ) (r : Reader) (b : ℕ) → codeOf st < 3

@@ -1,0 +1,21 @@
+-- What a call leaves of a decoder that is lent: the numbers, the table and the payload buffer that the definition says.
+use Prim.Native.Nat.{ℕ}
+use mathlib.Core.List.{List}
+use mathlib.Core.Path.{_≡_}
+use Rattle.deserializer.specs.Answer.{Listed, message, more, refused}
+use Rattle.deserializer.specs.Call.{Outcome}
+use Rattle.header_in_place.specs.Numbers.{encode}
+use Rattle.in_place.specs.declared.answer.Answer.{Answer}
+use Rattle.in_place.specs.declared.answer.Answer.the-variants.{Message, More, Refused}
+
+-- each answer's number and values, as document 01 lists them
+abbrev pub answerOf : Answer → Listed
+answerOf (Message type stream time length used) = message type stream (time .value) length used
+answerOf (More used) = more used
+answerOf (Refused number used) = refused number used
+
+pub record Lent (answer : Listed) (held rows payload : List ℕ) (o : Outcome) : Type 0 where
+  pub answer-is : answer ≡ o .answer
+  pub numbers : held ≡ encode (o .deserializer)
+  pub table : rows ≡ o .deserializer .rows
+  pub buffer : payload ≡ o .payload
