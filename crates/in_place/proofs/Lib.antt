@@ -1,2 +1,3 @@
 pub mod Landing
+pub mod Sizes
 pub mod Stepping

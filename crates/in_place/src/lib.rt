@@ -3,7 +3,12 @@
 mod answer;
 mod call;
 mod paying;
+mod size;
 mod turning;
 
 pub use crate::answer::Answer;
 pub use crate::call::next_message;
+pub use crate::size::Telling;
+pub use crate::size::get_max_chunk_size;
+pub use crate::size::make;
+pub use crate::size::set_max_chunk_size;
