@@ -12,6 +12,8 @@ pub use crate::numbers::Held;
 pub use crate::numbers::HeldRow;
 pub use crate::numbers::held_in;
 pub use crate::numbers::numbers_of;
+pub use crate::settle::first_time;
 pub use crate::table::put_at;
+pub use crate::table::row_or_empty;
 pub use crate::taking::renew;
 pub use crate::taking::take_byte;

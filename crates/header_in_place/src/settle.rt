@@ -103,7 +103,8 @@ fn refuses_13(h: Held, time: u32) -> bool
     time < MAX_INITIAL_TIMESTAMP
 }
 
-fn first_time(format: u32, before: u32, time: u32) -> u32
+// The time of a message, by what its first chunk says of it.
+pub fn first_time(format: u32, before: u32, time: u32) -> u32
     ensures { λ r. ⌜ r ≡ firstTime (formatFrom format) before time ⌝ }
 {
     if format == 0 {

@@ -1,9 +1,10 @@
 // Rows of the table, as numbers.
 ghost use mathlib.Core.Path.{_≡_};
 ghost use Prim.Native.Nat.{_<_};
-ghost use Rattle.byte_machine.specs.Rows.{putAt, putRow, rowAt};
+ghost use Rattle.byte_machine.specs.Rows.{putAt, putRow, rowAt, rowOrEmpty};
 ghost use Rattle.header_in_place.specs.Numbers.{rowFrom, heldRowOf};
 use crate::numbers::HeldRow;
+use byte_machine::ROWS;
 
 pub fn row_in(rows: &[u32; 384], i: usize) -> HeldRow
     requires { ⌜ i < 64 ⌝ }
@@ -31,6 +32,23 @@ fn put_row(rows: &mut [u32; 384], i: usize, row: HeldRow)
     rows[at + 3] = row.length;
     rows[at + 4] = row.kind;
     rows[at + 5] = row.stream;
+}
+
+// The row at a place; an empty one where the table has none there.
+pub fn row_or_empty(rows: &[u32; 384], place: usize) -> HeldRow
+    ensures { λ r. ⌜ r ≡ heldRowOf (rowOrEmpty (now (rows .entry)) place) ⌝ }
+{
+    if place < ROWS {
+        return row_in(rows, place);
+    }
+    HeldRow {
+        id: 0,
+        time: 0,
+        field: 0,
+        length: 0,
+        kind: 0,
+        stream: 0,
+    }
 }
 
 // The same, where the table has that place.

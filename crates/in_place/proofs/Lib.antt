@@ -1,3 +1,5 @@
+pub mod AtOnce
 pub mod Landing
 pub mod Sizes
 pub mod Stepping
+pub mod Strokes

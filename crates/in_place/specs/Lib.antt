@@ -2,3 +2,4 @@
 pub mod Lent
 -- what the private functions ensure
 pub mod Turn
+pub mod Quick

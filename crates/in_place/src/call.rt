@@ -3,19 +3,16 @@ ghost use Rattle.deserializer.specs.Call.{next};
 ghost use Rattle.header_in_place.specs.Numbers.{decode};
 ghost use Rattle.in_place.specs.Lent.{Lent, answerOf};
 use crate::answer::Answer;
+use crate::answer::handed;
 use crate::answer::refused;
+use crate::at_once::at_once;
 use crate::turning::turns;
+use crate::within::within;
 use byte_machine::wide;
 use header_in_place::renew;
 
-// Takes a prefix of `input`, up to the end of the next message at most. The payload of a message is the first bytes of
-// `payload`, where the same buffer was lent untouched since the message's first byte.
-pub fn next_message(
-    held: &mut [u32; 24],
-    rows: &mut [u32; 384],
-    input: &[u8],
-    payload: &mut [u8],
-) -> Answer
+// A closed decoder, or too short a buffer, or the bytes of the input.
+fn by_turns(held: &mut [u32; 24], rows: &mut [u32; 384], input: &[u8], payload: &mut [u8]) -> Answer
     ensures { λ r. ⌜ Lent (answerOf r) (now (held .exit)) (now (rows .exit)) (now (payload .exit)) (next (decode (now (held .entry)) (now (rows .entry))) (now (input .entry)) (now (payload .entry))) ⌝ }
 {
     let closed = held[2];
@@ -32,4 +29,24 @@ pub fn next_message(
         return Answer::More { used: 0 };
     }
     turns(held, rows, input, payload)
+}
+
+// Takes a prefix of `input`, up to the end of the next message at most. The payload of a message is the first bytes of
+// `payload`, where the same buffer was lent untouched since the message's first byte.
+pub fn next_message(
+    held: &mut [u32; 24],
+    rows: &mut [u32; 384],
+    input: &[u8],
+    payload: &mut [u8],
+) -> Answer
+    ensures { λ r. ⌜ Lent (answerOf r) (now (held .exit)) (now (rows .exit)) (now (payload .exit)) (next (decode (now (held .entry)) (now (rows .entry))) (now (input .entry)) (now (payload .entry))) ⌝ }
+{
+    if within(held, input, payload) {
+        return Answer::More { used: input.len() };
+    }
+    let used = at_once(held, rows, input, payload);
+    if used != 0 {
+        return handed(held, used);
+    }
+    by_turns(held, rows, input, payload)
 }

@@ -1,101 +1,66 @@
--- What is answered at once leaves the decoder, in the numbers that stand for it; else the run.
-use Prim.Native.Nat.{ℕ, _≤_}
-use mathlib.Core.Path.{_≡_, sym, ap, subst, _∙_}
-use mathlib.Core.List.{List}
-use native.Mathlib.Omega.{arith}
-use lib.ListN.{getD, length}
+-- The paths in turn: the first that takes the input answers, and one that does not has changed nothing.
+use mathlib.Core.Path.{refl}
+use Rattle.in_place.specs.Lent.{answerOf}
+use Rattle.in_place.proofs.Strokes.{after-none}
 use borrow.Author.Needs.{needs}
-use Rattle.deserializer.specs.Answer.{Listed, more}
-use Rattle.deserializer.specs.Call.{Outcome, next, outcome}
-use Rattle.deserializer.proofs.Runs.{next-closed, next-runs, next-short, run-end}
-use Rattle.header_in_place.specs.Numbers.{decode}
-use Rattle.in_place.specs.Lent.{Lent, answerOf}
-use Rattle.in_place.proofs.Stepping.{lent}
 use Rattle.in_place.proofs.call.next_message.Statement.{statement}
 use Rattle.in_place.proofs.call.next_message.Tie as tie
 
-element-copy-out-closed : tie.Need-element-copy-out-closed
-element-copy-out-closed c = search needs
-
-renew-requires : tie.Need-renew-requires
-renew-requires c κs = search needs
-
-refused-requires : tie.Need-refused-requires
-refused-requires c κs = search needs
-
-returns : tie.Need-returns
-returns c =
-    let a = c .before .before .before .before .before .before .before .args in
-    let d = decode (a .held .now) (a .rows .now) in
-    lent (next d (a .input .now) (a .payload .now)) (answerOf (c .refused .result)) (a .held .now) (a .rows .now) (a .payload .now) (c .before .renew .last .0)
-    (next-closed d (a .input .now) (a .payload .now) (c .before .before .before .if1 .taken) ∙ ap (λ (x : Listed). outcome x d (a .payload .now)) (sym (c .refused .ensures)))
-    (c .before .renew .ensures)
-
-element-copy-out-wide : tie.Need-element-copy-out-wide
-element-copy-out-wide c = search needs
-
-wide-requires : tie.Need-wide-requires
-wide-requires c κs = search needs
-
-renew-requires-2 : tie.Need-renew-requires-2
-renew-requires-2 c κs = search needs
-
-refused-requires-2 : tie.Need-refused-requires-2
-refused-requires-2 c κs = search needs
-
-returns-2 : tie.Need-returns-2
-returns-2 c =
-    let a = c .before .before .before .before .before .before .before .before .before .before .args in
-    let d = decode (a .held .now) (a .rows .now) in
-    lent (next d (a .input .now) (a .payload .now)) (answerOf (c .refused2 .result)) (a .held .now) (a .rows .now) (a .payload .now) (c .before .renew2 .last .0)
-    (next-short d (a .input .now) (a .payload .now) (c .before .before .before .before .before .before .if1 .left) (omega (arith, c .before .before .before .if2 .taken, c .before .before .before .before .wide .ensures))
-    ∙ ap (λ (x : Listed). outcome x d (a .payload .now)) (sym (c .refused2 .ensures)))
-    (c .before .renew2 .ensures)
-
-renew-requires-3 : tie.Need-renew-requires-3
-renew-requires-3 c κs = search needs
-
-returns-3 : tie.Need-returns-3
-returns-3 c =
-    let a = c .before .before .before .before .before .before .before .before .before .before .args in
-    let d = decode (a .held .now) (a .rows .now) in
-    let room : getD (a .held .now) 0 0 ≤ length (a .payload .now) = omega (arith, c .before .before .before .if2 .left, c .before .before .before .before .wide .ensures) in
-    lent (next d (a .input .now) (a .payload .now)) (more 0) (a .held .now) (a .rows .now) (a .payload .now) (c .renew3 .last .0)
-    (next-runs d (a .input .now) (a .payload .now) (c .before .before .before .before .before .before .if1 .left) room
-    ∙ run-end d (a .input .now) (a .payload .now) 0 0 (omega (arith, c .before .before .if3 .taken)))
-    (c .renew3 .ensures)
-
-turns-requires : tie.Need-turns-requires
-turns-requires c κs = search needs
+within-requires : tie.Need-within-requires
+within-requires c κs = search needs
 
 same-length : tie.Need-same-length
 same-length c = search needs
 
-returns-4 : tie.Need-returns-4
-returns-4 c =
-    let a = c .before .before .before .before .before .before .before .before .before .before .before .before .before .before .args in
-    let d = decode (a .held .now) (a .rows .now) in
-    let t = c .before .before .turns in
-    let room : getD (a .held .now) 0 0 ≤ length (a .payload .now) = omega (arith, c .before .before .before .before .before .before .before .if2 .left, c .before .before .before .before .before .before .before .before .wide .ensures) in
-    subst (λ (o : Outcome). Lent (answerOf (t .result)) (t .last .0) (t .last .1 .0) (t .last .1 .1 .1 .0) o)
-    (sym (next-runs d (a .input .now) (a .payload .now) (c .before .before .before .before .before .before .before .before .before .before .if1 .left) room))
-    (t .ensures)
+returns : tie.Need-returns
+returns c = c .before .before .before .within .ensures .taken (c .if1 .taken) (c .before .before .before .before .before .before .before .before .args .rows .now)
+
+at-once-requires : tie.Need-at-once-requires
+at-once-requires c κs = search needs
+
+handed-requires : tie.Need-handed-requires
+handed-requires c κs = search needs
+
+same-length-2 : tie.Need-same-length-2
+same-length-2 c = search needs
+
+returns-2 : tie.Need-returns-2
+returns-2 c =
+    let a = c .before .before .before .before .before .before .before .before .before .before .before .before .before .before .before .before .before .args in
+    let w = c .before .before .before .before .before .before .before .before .before .before .before .before .within in
+    let o = c .before .before .before .before .before .at-once in
+    let no = c .before .before .before .before .before .before .before .before .before .if1 .left in
+    after-none (answerOf (c .handed .result)) (o .last .0) (o .last .1 .0) (o .last .1 .1 .1 .0) (w .last .0) (a .rows .now) (w .last .1 .1 .0) (a .held .now) (a .rows .now) (a .input .now) (a .payload .now) (w .ensures .numbers no) refl (w .ensures .buffer no)
+    (rw (c .handed .ensures) (o .ensures .taken (c .before .before .if2 .taken)))
+
+by-turns-requires : tie.Need-by-turns-requires
+by-turns-requires c κs = search needs
+
+same-length-3 : tie.Need-same-length-3
+same-length-3 c = search needs
+
+returns-3 : tie.Need-returns-3
+returns-3 c =
+    let a = c .before .before .before .before .before .before .before .before .before .before .before .before .before .before .before .before .before .before .before .before .before .args in
+    let w = c .before .before .before .before .before .before .before .before .before .before .before .before .before .before .before .before .within in
+    let o = c .before .before .before .before .before .before .before .before .before .at-once in
+    let t = c .before .before .by-turns in
+    let no = c .before .before .before .before .before .before .before .before .before .before .before .before .before .if1 .left in
+    let none = c .before .before .before .before .before .before .if2 .left in
+    after-none (answerOf (t .result)) (t .last .0) (t .last .1 .0) (t .last .1 .1 .1 .0) (w .last .0) (a .rows .now) (w .last .1 .1 .0) (a .held .now) (a .rows .now) (a .input .now) (a .payload .now) (w .ensures .numbers no) refl (w .ensures .buffer no)
+    (after-none (answerOf (t .result)) (t .last .0) (t .last .1 .0) (t .last .1 .1 .1 .0) (o .last .0) (o .last .1 .0) (o .last .1 .1 .1 .0) (w .last .0) (a .rows .now) (a .input .now) (w .last .1 .1 .0) (o .ensures .numbers none) (o .ensures .table none) (o .ensures .buffer none) (t .ensures))
 
 pub next-message-spec : {M : Type 1} → statement M
 next-message-spec =
     tie.close
     (tie.spec
-    element-copy-out-closed
-    renew-requires
-    refused-requires
-    returns
-    element-copy-out-wide
-    wide-requires
-    renew-requires-2
-    refused-requires-2
-    returns-2
-    renew-requires-3
-    returns-3
-    turns-requires
+    within-requires
     same-length
-    returns-4)
+    returns
+    at-once-requires
+    handed-requires
+    same-length-2
+    returns-2
+    by-turns-requires
+    same-length-3
+    returns-3)
