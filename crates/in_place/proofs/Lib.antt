@@ -1,4 +1,5 @@
 pub mod AtOnce
+pub mod Following
 pub mod Landing
 pub mod Sizes
 pub mod Stepping

@@ -3,3 +3,4 @@ pub mod Lent
 -- what the private functions ensure
 pub mod Turn
 pub mod Quick
+pub mod Follow

@@ -3,6 +3,7 @@
 mod answer;
 mod at_once;
 mod call;
+mod further;
 mod paying;
 mod size;
 mod turning;

@@ -8,13 +8,14 @@ ghost use Rattle.in_place.specs.Turn.{Turned};
 use crate::answer::Answer;
 use crate::answer::handed;
 use crate::answer::refused;
+use crate::further::further;
 use crate::paying::Moved;
 use crate::paying::may_pay;
 use crate::paying::pay;
 use header_in_place::take_byte;
 
-// Takes a stretch of a payload, or a byte of a header.
-fn turn(held: &mut [u32; 24], rows: &mut [u32; 384], input: &[u8], payload: &mut [u8]) -> Moved
+// Takes a stretch of a payload, or a byte of a header ..
+fn once(held: &mut [u32; 24], rows: &mut [u32; 384], input: &[u8], payload: &mut [u8]) -> Moved
     requires { ⌜ (0 < length (now input)) × (getD (now held) 0 0 ≤ length (now payload)) ⌝ }
     ensures { λ r. ⌜ Turned r (now (held .entry)) (now (rows .entry)) (now (input .entry)) (now (payload .entry)) (now (held .exit)) (now (rows .exit)) (now (payload .exit)) ⌝ }
 {
@@ -26,6 +27,19 @@ fn turn(held: &mut [u32; 24], rows: &mut [u32; 384], input: &[u8], payload: &mut
         event: event,
         used: 1,
     }
+}
+
+// .. and the chunks of the same message that may follow at once.
+fn turn(held: &mut [u32; 24], rows: &mut [u32; 384], input: &[u8], payload: &mut [u8]) -> Moved
+    requires { ⌜ (0 < length (now input)) × (getD (now held) 0 0 ≤ length (now payload)) ⌝ }
+    ensures { λ r. ⌜ Turned r (now (held .entry)) (now (rows .entry)) (now (input .entry)) (now (payload .entry)) (now (held .exit)) (now (rows .exit)) (now (payload .exit)) ⌝ }
+{
+    let moved = once(held, rows, input, payload);
+    if moved.event != 1 {
+        return moved;
+    }
+    let at = further(held, rows, input, moved.used, payload);
+    Moved { event: 1, used: at }
 }
 
 pub fn turns(

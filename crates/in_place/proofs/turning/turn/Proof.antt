@@ -1,66 +1,39 @@
--- A stretch of payload where one may come, and the step of one byte where not.
-use Prim.Native.Nat.{ℕ}
-use mathlib.Core.Path.{sym, ap, _∙_}
-use mathlib.Core.List.{List}
+-- A turn that ends a chunk goes on with the chunks that follow.
 use native.Mathlib.Omega.{arith}
-use lib.ListN.{drop, getD}
 use borrow.Author.Needs.{needs}
-use Rattle.deserializer.specs.Call.{run}
-use Rattle.deserializer.proofs.Runs.{byte-at}
-use Rattle.header_in_place.specs.Byte.{stepIn}
-use Rattle.header_in_place.specs.Numbers.{decode}
-use Rattle.header_in_place.proofs.Small.{left-means}
-use Rattle.in_place.proofs.Landing.{byte-runs, ready}
-use Rattle.in_place.proofs.Stepping.{turned}
+use Rattle.in_place.proofs.Following.{turned-further}
 use Rattle.in_place.proofs.turning.turn.Statement.{statement}
 use Rattle.in_place.proofs.turning.turn.Tie as tie
 
-may-pay-requires : tie.Need-may-pay-requires
-may-pay-requires c κs = search needs
-
-pay-requires : tie.Need-pay-requires
-pay-requires c κs =
-    let s = c .before .before .before .before .before .before .before .before in
-    ready (s .args .held .now) (s .args .input .now) (s .args .payload .now)
-    (sym (c .before .before .before .before .may-pay .ensures) ∙ c .before .before .before .if1 .taken)
-    (s .pre .0)
-    (s .pre .1)
+once-requires : tie.Need-once-requires
+once-requires c κs = search needs
 
 same-length : tie.Need-same-length
 same-length c = search needs
 
 returns : tie.Need-returns
-returns c = search needs
+returns c = c .before .before .before .before .once .ensures
 
-shared-slice-read-take-byte : tie.Need-shared-slice-read-take-byte
-shared-slice-read-take-byte c = search needs
+further-requires : tie.Need-further-requires
+further-requires c κs = let o = c .before .before .before .before .before .before .before .once in (o .ensures .within, omega (arith, o .ensures .room, o .kept .1 .1 .1 .0, c .before .before .before .before .before .before .before .before .before .before .before .before .before .pre .1))
 
-take-byte-requires : tie.Need-take-byte-requires
-take-byte-requires c κs = search needs
+same-length-2 : tie.Need-same-length-2
+same-length-2 c = search needs
 
 returns-2 : tie.Need-returns-2
 returns-2 c =
-    let s = c .before .before .before .before .before .before .before .before .before in
-    let held = s .args .held .now in
-    let rows = s .args .rows .now in
-    let input = s .args .input .now in
-    let payload = s .args .payload .now in
-    let taken = c .take-byte in
-    let not-paid = sym (c .before .before .before .before .before .may-pay .ensures) ∙ c .before .before .before .before .if1 .left in
-    turned (record { event = taken .result; used = 1 }) held rows input payload (taken .last .0) (taken .last .1 .0) payload (stepIn (decode held rows) (getD input 0 0)) (taken .ensures)
-    (left-means (taken .result) held rows (taken .last .0) (taken .last .1 .0) (getD input 0 0) (omega (arith, c .before .shared-slice-known2 .given 0)) (taken .ensures))
-    (omega arith)
-    (s .pre .0)
-    (λ n. ap (λ (l : List ℕ). run l (decode held rows) payload n) (byte-at input 0 (s .pre .0)) ∙ byte-runs held rows (getD input 0 0) (drop 1 input) payload n not-paid)
+    let a = c .before .before .before .before .before .before .before .before .before .before .before .before .before .before .before .before .args in
+    let o = c .before .before .before .before .before .before .before .before .before .before .once in
+    let f = c .before .before .further in
+    turned-further (o .result) (f .result) (a .held .now) (a .rows .now) (a .input .now) (a .payload .now) (o .last .0) (o .last .1 .0) (o .last .1 .1 .1 .0) (f .last .0) (f .last .1 .1 .1 .1 .0) (o .ensures) (c .before .before .before .before .before .before .if1 .left) (f .ensures)
 
 pub turn-spec : {M : Type 1} → statement M
 turn-spec =
     tie.close
     (tie.spec
-    may-pay-requires
-    pay-requires
+    once-requires
     same-length
     returns
-    shared-slice-read-take-byte
-    take-byte-requires
+    further-requires
+    same-length-2
     returns-2)
