@@ -26,7 +26,7 @@ use Rattle.header_in_place.proofs.Again.{decode-encode}
 use Rattle.header_in_place.proofs.Stages.{is-csid}
 use Rattle.in_place.specs.declared.further.Gone.{Gone}
 use Rattle.in_place.specs.declared.paying.Moved.{Moved}
-use Rattle.in_place.specs.Follow.{Follows, Goes, Paused, Plain}
+use Rattle.in_place.specs.Follow.{Follows, Goes, Paused, Plain, goneTo}
 use Rattle.in_place.specs.Turn.{Turned}
 use Rattle.in_place.proofs.Stepping.{follows-on}
 
@@ -102,7 +102,7 @@ module _ (held rows input : List ℕ) (at place : ℕ) (payload : List ℕ) (row
       ∙ sym (core-on (gone core place r (getD held 10 0)) rows input payload at place n r (amid-gone core rows place (getD held 10 0) r a) (begins .same) w′ refl)
 
   pub follows-some : (g : Gone) (held′ payload′ : List ℕ) → Goes g (getD held 1 0) (getD held 9 0) (row .length) (getD held 10 0) input at payload payload′ → g .at ≢ at
-      → held′ ≡ numbersOf (record { room = getD held 0 0; size = getD held 1 0; closed = getD held 2 0; stage = 0; number = 0; lacks = 0; format = 3; place = place; left = 0; id = getD held 9 0; got = g .got; before = row; header = row })
+      → held′ ≡ numbersOf (goneTo held place row (g .got))
       → Follows (g .at) held rows input at payload held′ payload′
   follows-some g held′ payload′ h moved e =
       let a = begins .amid in

@@ -13,6 +13,7 @@ use Rattle.deserializer.specs.Call.{run}
 use Rattle.deserializer.specs.Further.{Amid, Next, gone}
 use Rattle.deserializer.specs.Turn.{whole}
 use Rattle.deserializer.specs.declared.call.Core.{Core}
+use Rattle.header_in_place.specs.declared.numbers.Held.{Held}
 use Rattle.header_in_place.specs.declared.numbers.HeldRow.{HeldRow}
 use Rattle.header_in_place.specs.Numbers.{again, decode}
 use Rattle.in_place.specs.declared.further.Gone.{Gone}
@@ -55,3 +56,21 @@ pub record Follows (r : ℕ) (held rows input : List ℕ) (at : ℕ) (payload he
   pub room : getD held′ 0 0 ≡ getD held 0 0
   pub kept : held ≡ again held → held′ ≡ again held′
   pub runs : run (drop at input) (decode held rows) payload at ≡ run (drop r input) (decode held′ rows) payload′ r
+
+-- the numbers after them
+abbrev pub goneTo : (held : List ℕ) → (place : ℕ) → HeldRow → (got : ℕ) → Held
+goneTo held place row got = record {
+  room = getD held 0 0;
+  size = getD held 1 0;
+  closed = getD held 2 0;
+  stage = 0;
+  number = 0;
+  lacks = 0;
+  format = 3;
+  place = place;
+  left = 0;
+  id = getD held 9 0;
+  got = got;
+  before = row;
+  header = row;
+}

@@ -5,7 +5,8 @@ ghost use lib.Dec.{leb};
 ghost use lib.ListN.{drop, getD, length as ListN·length, take};
 ghost use lib.Seq.{sets};
 ghost use Rattle.deserializer.specs.Further.{Stops};
-ghost use Rattle.in_place.specs.Follow.{Apart, Follows, Goes, Other};
+ghost use Rattle.header_in_place.specs.Numbers.{numbersOf};
+ghost use Rattle.in_place.specs.Follow.{Apart, Follows, Goes, Other, goneTo};
 use byte_machine::ROWS;
 use byte_machine::find;
 use byte_machine::lacking;
@@ -110,6 +111,27 @@ fn is_other(rows: &[u32; 384], place: usize, row: HeldRow, room: u32) -> bool
     room < row.length
 }
 
+// The decoder after such chunks: so many bytes of the message have come.
+fn gone_to(held: &[u32; 24], place: u32, row: HeldRow, got: u32) -> [u32; 24]
+    ensures { λ r. ⌜ r ≡ numbersOf (goneTo (now (held .entry)) place row got) ⌝ }
+{
+    numbers_of(Held {
+        room: held[0],
+        size: held[1],
+        closed: held[2],
+        stage: 0,
+        number: 0,
+        lacks: 0,
+        format: 3,
+        place: place,
+        left: 0,
+        id: held[9],
+        got: got,
+        before: row,
+        header: row,
+    })
+}
+
 // Takes the chunks that follow one that has ended, and says where in the input they end.
 pub fn further(
     held: &mut [u32; 24],
@@ -126,7 +148,6 @@ pub fn further(
     }
     let room = held[0];
     let size = held[1];
-    let closed = held[2];
     let id = held[9];
     let got = held[10];
     let place = find(rows, id);
@@ -141,21 +162,7 @@ pub fn further(
     if gone.at == at {
         return at;
     }
-    let numbers = numbers_of(Held {
-        room: room,
-        size: size,
-        closed: closed,
-        stage: 0,
-        number: 0,
-        lacks: 0,
-        format: 3,
-        place: place as u32,
-        left: 0,
-        id: id,
-        got: gone.got,
-        before: row,
-        header: row,
-    });
+    let numbers = gone_to(held, place as u32, row, gone.got);
     *held = numbers;
     gone.at
 }

@@ -20,9 +20,6 @@ element-copy-out-room c = search needs
 element-copy-out-size : tie.Need-element-copy-out-size
 element-copy-out-size c = search needs
 
-element-copy-out-closed : tie.Need-element-copy-out-closed
-element-copy-out-closed c = search needs
-
 element-copy-out-id : tie.Need-element-copy-out-id
 element-copy-out-id c = search needs
 
@@ -34,8 +31,8 @@ find-requires c κs = search needs
 
 returns-2 : tie.Need-returns-2
 returns-2 c =
-    let a = c .before .before .before .before .before .before .before .before .before .before .before .before .args in
-    let pre = c .before .before .before .before .before .before .before .before .before .before .before .before .pre in
+    let a = c .before .before .before .before .before .before .before .before .before .before .before .args in
+    let pre = c .before .before .before .before .before .before .before .before .before .before .before .pre in
     follows-none (a .held .now) (a .rows .now) (a .input .now) (a .at) (a .payload .now) (pre .0)
 
 row-or-empty-requires : tie.Need-row-or-empty-requires
@@ -46,15 +43,15 @@ is-other-requires c κs = search needs
 
 returns-3 : tie.Need-returns-3
 returns-3 c =
-    let a = c .before .before .before .before .before .before .before .before .before .before .before .before .before .before .before .args in
-    let pre = c .before .before .before .before .before .before .before .before .before .before .before .before .before .before .before .pre in
+    let a = c .before .before .before .before .before .before .before .before .before .before .before .before .before .before .args in
+    let pre = c .before .before .before .before .before .before .before .before .before .before .before .before .before .before .pre in
     follows-none (a .held .now) (a .rows .now) (a .input .now) (a .at) (a .payload .now) (pre .0)
 
 chunks-requires : tie.Need-chunks-requires
 chunks-requires c κs =
-    let a = c .before .before .before .before .before .before .before .before .before .before .before .before .before .before .before .before .args in
-    let pre = c .before .before .before .before .before .before .before .before .before .before .before .before .before .before .before .before .pre in
-    let p = c .before .before .before .before .before .before .before .before .before .before .before .before .is-apart .ensures (c .before .before .before .before .before .before .before .before .before .before .before .if1 .left) in
+    let a = c .before .before .before .before .before .before .before .before .before .before .before .before .before .before .before .args in
+    let pre = c .before .before .before .before .before .before .before .before .before .before .before .before .before .before .before .pre in
+    let p = c .before .before .before .before .before .before .before .before .before .before .before .is-apart .ensures (c .before .before .before .before .before .before .before .before .before .before .if1 .left) in
     let k = c .before .before .is-other .ensures (c .before .if3 .left) in
     (p .most, (pre .0, omega (arith, k .fits, pre .1)))
 
@@ -63,15 +60,15 @@ same-length c = search needs
 
 returns-4 : tie.Need-returns-4
 returns-4 c =
-    let a = c .before .before .before .before .before .before .before .before .before .before .before .before .before .before .before .before .before .before .before .before .before .args in
-    let pre = c .before .before .before .before .before .before .before .before .before .before .before .before .before .before .before .before .before .before .before .before .before .pre in
+    let a = c .before .before .before .before .before .before .before .before .before .before .before .before .before .before .before .before .before .before .before .before .args in
+    let pre = c .before .before .before .before .before .before .before .before .before .before .before .before .before .before .before .before .before .before .before .before .pre in
     rw (c .before .before .before .before .chunks .ensures .none (c .if4 .taken)) (follows-none (a .held .now) (a .rows .now) (a .input .now) (a .at) (a .payload .now) (pre .0))
 
-cast-t19 : tie.Need-cast-t19
-cast-t19 c = omega (arith, c .before .before .before .before .before .before .before .before .before .if2 .left)
+cast-gone-to : tie.Need-cast-gone-to
+cast-gone-to c = omega (arith, c .before .before .before .before .before .before .before .before .before .before .if2 .left)
 
-numbers-of-requires : tie.Need-numbers-of-requires
-numbers-of-requires c κs = search needs
+gone-to-requires : tie.Need-gone-to-requires
+gone-to-requires c κs = search needs
 
 same-length-2 : tie.Need-same-length-2
 same-length-2 c = search needs
@@ -80,21 +77,21 @@ returns-5 : tie.Need-returns-5
 returns-5 c =
     let a = c .before .before .before .before .before .before .before .before .before .before .before .before .before .before .before .before .before .before .before .before .before .before .args in
     let pre = c .before .before .before .before .before .before .before .before .before .before .before .before .before .before .before .before .before .before .before .before .before .before .pre in
-    let g = c .before .before .before .before .before .chunks in
-    follows-some (a .held .now) (a .rows .now) (a .input .now) (a .at) (c .before .before .before .before .before .before .before .before .before .before .before .find .result) (a .payload .now) (c .before .before .before .before .before .before .before .before .before .row-or-empty .result)
+    let g = c .before .before .before .before .before .before .chunks in
+    follows-some (a .held .now) (a .rows .now) (a .input .now) (a .at) (c .before .before .before .before .before .before .before .before .before .before .before .before .find .result) (a .payload .now) (c .before .before .before .before .before .before .before .before .before .before .row-or-empty .result)
     (c .before .before .before .before .before .before .before .before .before .before .before .before .before .before .before .before .before .before .is-apart .ensures (c .before .before .before .before .before .before .before .before .before .before .before .before .before .before .before .before .before .if1 .left))
-    (c .before .before .before .before .before .before .before .before .before .before .before .find .ensures)
-    (c .before .before .before .before .before .before .before .before .before .before .if2 .left)
-    (c .before .before .before .before .before .before .before .before .before .row-or-empty .ensures)
-    (c .before .before .before .before .before .before .before .before .is-other .ensures (c .before .before .before .before .before .before .before .if3 .left))
+    (c .before .before .before .before .before .before .before .before .before .before .before .before .find .ensures)
+    (c .before .before .before .before .before .before .before .before .before .before .before .if2 .left)
+    (c .before .before .before .before .before .before .before .before .before .before .row-or-empty .ensures)
+    (c .before .before .before .before .before .before .before .before .before .is-other .ensures (c .before .before .before .before .before .before .before .before .if3 .left))
     (pre .0)
     (pre .1)
     (g .result)
-    (c .numbers-of .result)
+    (c .gone-to .result)
     (g .last .1 .1 .1 .1 .1 .1 .0)
     (g .ensures)
-    (c .before .if4 .left)
-    (c .numbers-of .ensures)
+    (c .before .before .if4 .left)
+    (c .gone-to .ensures)
 
 pub further-spec : {M : Type 1} → statement M
 further-spec =
@@ -104,7 +101,6 @@ further-spec =
     returns
     element-copy-out-room
     element-copy-out-size
-    element-copy-out-closed
     element-copy-out-id
     element-copy-out-got
     find-requires
@@ -115,7 +111,7 @@ further-spec =
     chunks-requires
     same-length
     returns-4
-    cast-t19
-    numbers-of-requires
+    cast-gone-to
+    gone-to-requires
     same-length-2
     returns-5)
