@@ -1,6 +1,4 @@
-pub mod AtOnce
 pub mod Following
 pub mod Landing
 pub mod Sizes
 pub mod Stepping
-pub mod Strokes

@@ -12,7 +12,7 @@ use Rattle.deserializer.specs.Told.{Outcome, Size, between, fresh, made, maxRoo
 use Rattle.deserializer.specs.declared.ChunkDeserializer.{ChunkDeserializer}
 use Rattle.header_in_place.specs.Numbers.{again, decode, encode, stageFrom}
 use Rattle.header_in_place.proofs.Stages.{is-payload}
-use Rattle.in_place.specs.Lent.{LentSize, LentTold, Stands}
+use Rattle.in_place.specs.Answer.{LentSize, LentTold, Stands}
 
 -- before the first byte of a chunk only at stage 0
 pub not-start : (s n l : ℕ) → s ≢ 0 → atStart (stageFrom s n l) ≡ false

@@ -22,7 +22,7 @@ use Rattle.header_in_place.specs.declared.numbers.Done.{Done}
 use Rattle.header_in_place.specs.declared.numbers.Held.{Held}
 use Rattle.header_in_place.proofs.Keeping.{left-kept}
 use Rattle.in_place.specs.declared.paying.Moved.{Moved}
-use Rattle.in_place.specs.Lent.{Lent}
+use Rattle.one_stroke.specs.Lent.{Lent}
 use Rattle.in_place.specs.Turn.{Turned, follows}
 
 abbrev step : Reader → Event → ℕ → Stepped

@@ -3,7 +3,7 @@ ghost use mathlib.Core.Path.{_≡_};
 ghost use Rattle.deserializer.specs.Answer.{refused as Answer·refused};
 ghost use Rattle.deserializer.specs.Call.{read};
 ghost use Rattle.header_in_place.specs.Numbers.{heldIn, readerFrom};
-ghost use Rattle.in_place.specs.Lent.{answerOf};
+ghost use Rattle.in_place.specs.Answer.{answerOf};
 use header_in_place::held_in;
 use time::RtmpTimestamp;
 

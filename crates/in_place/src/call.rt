@@ -1,15 +1,16 @@
 // The next message, over what is lent.
 ghost use Rattle.deserializer.specs.Call.{next};
 ghost use Rattle.header_in_place.specs.Numbers.{decode};
-ghost use Rattle.in_place.specs.Lent.{Lent, answerOf};
+ghost use Rattle.one_stroke.specs.Lent.{Lent};
+ghost use Rattle.in_place.specs.Answer.{answerOf};
 use crate::answer::Answer;
 use crate::answer::handed;
 use crate::answer::refused;
-use crate::at_once::at_once;
 use crate::turning::turns;
-use crate::within::within;
 use byte_machine::wide;
 use header_in_place::renew;
+use one_stroke::at_once;
+use one_stroke::within;
 
 // A closed decoder, or too short a buffer, or the bytes of the input.
 fn by_turns(held: &mut [u32; 24], rows: &mut [u32; 384], input: &[u8], payload: &mut [u8]) -> Answer

@@ -1,13 +1,11 @@
 // The decoder in place: bytes in, messages out, over numbers and a table that the caller lends (chunk_io/deserializer.rs of
 // rml_rtmp).
 mod answer;
-mod at_once;
 mod call;
 mod further;
 mod paying;
 mod size;
 mod turning;
-mod within;
 
 pub use crate::answer::Answer;
 pub use crate::call::next_message;

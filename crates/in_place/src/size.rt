@@ -3,7 +3,7 @@ ghost use mathlib.Core.List.{[]};
 ghost use mathlib.Core.Path.{_≡_};
 ghost use Rattle.deserializer.specs.Told.{between as Told·between, fresh as Told·fresh, made, refused as Told·refused, sized};
 ghost use Rattle.header_in_place.specs.Numbers.{again, decode, encode, heldIn, readerFrom};
-ghost use Rattle.in_place.specs.Lent.{LentSize, LentTold, Stands, sizeOf};
+ghost use Rattle.in_place.specs.Answer.{LentSize, LentTold, Stands, sizeOf};
 use chunk_header::INITIAL_MAX_CHUNK_SIZE;
 use chunk_header::LARGEST_CHUNK_SIZE;
 use header_in_place::held_in;

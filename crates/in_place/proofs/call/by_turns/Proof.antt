@@ -9,7 +9,8 @@ use Rattle.deserializer.specs.Answer.{Listed, more}
 use Rattle.deserializer.specs.Call.{Outcome, next, outcome}
 use Rattle.deserializer.proofs.Runs.{next-closed, next-runs, next-short, run-end}
 use Rattle.header_in_place.specs.Numbers.{decode}
-use Rattle.in_place.specs.Lent.{Lent, answerOf}
+use Rattle.one_stroke.specs.Lent.{Lent}
+use Rattle.in_place.specs.Answer.{answerOf}
 use Rattle.in_place.proofs.Stepping.{lent}
 use Rattle.in_place.proofs.call.by_turns.Statement.{statement}
 use Rattle.in_place.proofs.call.by_turns.Tie as tie

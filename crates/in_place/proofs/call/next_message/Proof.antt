@@ -1,7 +1,7 @@
 -- The paths in turn: the first that takes the input answers, and one that does not has changed nothing.
 use mathlib.Core.Path.{refl}
-use Rattle.in_place.specs.Lent.{answerOf}
-use Rattle.in_place.proofs.Strokes.{after-none}
+use Rattle.in_place.specs.Answer.{answerOf}
+use Rattle.one_stroke.proofs.Strokes.{after-none}
 use borrow.Author.Needs.{needs}
 use Rattle.in_place.proofs.call.next_message.Statement.{statement}
 use Rattle.in_place.proofs.call.next_message.Tie as tie

@@ -2,7 +2,7 @@
 use mathlib.Core.Path.{sym, _∙_}
 use lib.ListN.{getD}
 use Rattle.header_in_place.specs.Numbers.{decode}
-use Rattle.in_place.specs.Lent.{sizeOf}
+use Rattle.in_place.specs.Answer.{sizeOf}
 use Rattle.in_place.proofs.Sizes.{says-closed, says-inside, says-large, says-none, says-taken, told-refused, told-taken}
 use borrow.Author.Needs.{needs}
 use Rattle.in_place.proofs.size.set_max_chunk_size.Statement.{statement}

@@ -11,7 +11,8 @@ use Rattle.deserializer.specs.Answer.{Listed, more}
 use Rattle.deserializer.specs.Call.{outcome, run}
 use Rattle.deserializer.proofs.Runs.{run-end}
 use Rattle.header_in_place.specs.Numbers.{again, decode}
-use Rattle.in_place.specs.Lent.{Lent, answerOf}
+use Rattle.one_stroke.specs.Lent.{Lent}
+use Rattle.in_place.specs.Answer.{answerOf}
 use Rattle.in_place.specs.Turn.{follows}
 use Rattle.in_place.proofs.Stepping.{follows-message, follows-on, follows-refusal, lent, turned-on, turned-within}
 use Rattle.in_place.proofs.turning.turns.Statement.{statement}
