@@ -1,0 +1,55 @@
+-- What is stored after a step is what the definition leaves: by cases on what the step settled.
+use Prim.Native.Nat.{ℕ}
+use mathlib.Core.Path.{_≡_, refl}
+use mathlib.Core.Logic.{_≢_}
+use mathlib.Core.Bool.{Bool, true}
+use mathlib.Core.List.{List}
+use native.Mathlib.Omega.{arith}
+use Rattle.chunk_header.specs.declared.ChunkHeaderFormat.{ChunkHeaderFormat}
+use Rattle.chunk_header.specs.declared.ChunkHeaderFormat.the-variants.{Full, TimeDeltaWithoutMessageStreamId, TimeDeltaOnly, Empty}
+use Rattle.chunk_header.specs.Table.{typeOf}
+use Rattle.chunk_meaning.specs.Meaning.{basicRefusal}
+use Rattle.byte_machine.specs.declared.reader.Event.{Event}
+use Rattle.byte_machine.specs.declared.reader.Event.the-variants.{Go, Chunk, Message, Refuse}
+use Rattle.byte_machine.specs.declared.reader.Reader.{Reader}
+use Rattle.byte_machine.specs.declared.reader.Stepped.{Stepped}
+use Rattle.byte_machine.specs.Rows.{putAt}
+use Rattle.deserializer.specs.Call.{after}
+use Rattle.header_in_place.specs.declared.numbers.Held.{Held}
+use Rattle.header_in_place.specs.Byte.{Left, doneOf, eventOf, refusalOf}
+use Rattle.header_in_place.specs.Numbers.{formatFrom, heldOf, meant, numbersOf, readerFrom, rowFrom}
+
+abbrev step : Reader → Event → ℕ → Stepped
+step r e p = record { reader = r; event = e; place = p }
+
+pub left-refused : (h : Held) (rows : List ℕ) (r : Reader) (e : Event) (p : ℕ) → eventOf e ≡ 3
+    → Left 3 (numbersOf (heldOf (h .room) (h .size) (refusalOf e) (readerFrom h))) rows (meant h rows) (step r e p)
+unfolding after
+left-refused h rows r Go p q = absurd (omega (arith, q))
+left-refused h rows r Chunk p q = absurd (omega (arith, q))
+left-refused h rows r Message p q = absurd (omega (arith, q))
+left-refused h rows r (Refuse k) p q = record { event-is = refl; numbers = refl; table = refl }
+
+pub left-kept : (h : Held) (rows : List ℕ) (r : Reader) (e : Event) (p : ℕ) → eventOf e ≢ 3
+    → let d = doneOf h (step r e p) in Left (d .event) (numbersOf (d .held)) (putAt rows (d .place) (rowFrom (d .held .header))) (meant h rows) (step r e p)
+unfolding after
+left-kept h rows r Go p q = record { event-is = refl; numbers = refl; table = refl }
+left-kept h rows r Chunk p q = record { event-is = refl; numbers = refl; table = refl }
+left-kept h rows r Message p q = record { event-is = refl; numbers = refl; table = refl }
+left-kept h rows r (Refuse k) p q = absurd (q refl)
+
+-- a format stands for itself
+pub from-again : (f : ChunkHeaderFormat) → formatFrom (typeOf f) ≡ f
+unfolding formatFrom
+from-again Full = refl
+from-again TimeDeltaWithoutMessageStreamId = refl
+from-again TimeDeltaOnly = refl
+from-again Empty = refl
+
+-- of a stream that has a row it does not count whether one is free
+pub free-known : (f : ChunkHeaderFormat) (free inside own : Bool) → basicRefusal f true true inside own ≡ basicRefusal f true free inside own
+unfolding basicRefusal
+free-known Full free inside own = refl
+free-known TimeDeltaWithoutMessageStreamId free inside own = refl
+free-known TimeDeltaOnly free inside own = refl
+free-known Empty free inside own = refl

@@ -1,0 +1,31 @@
+-- By the stage, which says how many bytes of the basic header have come.
+use mathlib.Core.Path.{sym, subst}
+use native.Mathlib.Omega.{arith}
+use borrow.Author.Needs.{needs}
+use Rattle.byte_machine.specs.declared.reader.Stage.{Stage}
+use Rattle.header_in_place.specs.Byte.{bytesOf, Says}
+use Rattle.header_in_place.proofs.Stages.{is-csid, is-second, is-third}
+use Rattle.header_in_place.proofs.basic.says.Statement.{statement}
+use Rattle.header_in_place.proofs.basic.says.Tie as tie
+
+one-requires : tie.Need-one-requires
+one-requires c κs = search needs
+
+returns : tie.Need-returns
+returns c = let a = c .before .before .before .args in let h = a .h in subst (λ (st : Stage). Says (c .one .result) (bytesOf st (a .byte))) (sym (is-csid (h .stage) (h .number) (h .lacks) (c .before .if1 .taken))) (c .one .ensures)
+
+two-requires : tie.Need-two-requires
+two-requires c κs = search needs
+
+returns-2 : tie.Need-returns-2
+returns-2 c = let a = c .before .before .before .before .before .args in let h = a .h in subst (λ (st : Stage). Says (c .two .result) (bytesOf st (a .byte))) (sym (is-second (h .stage) (h .number) (h .lacks) (c .before .if2 .taken))) (c .two .ensures)
+
+three-requires : tie.Need-three-requires
+three-requires c κs = search needs
+
+returns-3 : tie.Need-returns-3
+returns-3 c = let s = c .before .before .before .before .before .before in let h = s .args .h in subst (λ (st : Stage). Says (c .three .result) (bytesOf st (s .args .byte))) (sym (is-third (h .stage) (h .number) (h .lacks) (omega (arith, s .pre, c .before .before .if2 .left, c .before .before .before .before .if1 .left)))) (c .three .ensures)
+
+pub says-spec : {M : Type 1} → statement M
+says-spec =
+    tie.close (tie.spec one-requires returns two-requires returns-2 three-requires returns-3)

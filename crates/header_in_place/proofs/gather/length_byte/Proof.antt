@@ -1,0 +1,35 @@
+-- The last byte of the field goes on to the type; another one is gathered.
+use Prim.Native.Nat.{_-_}
+use mathlib.Core.Path.{_∙_}
+use borrow.Author.Tests.{le-leb, lt-leb}
+use borrow.Author.Needs.{needs}
+use Rattle.byte_machine.specs.Step.{lengthField}
+use Rattle.byte_machine.specs.declared.reader.Stage.the-variants.{MessageLength}
+use Rattle.header_in_place.proofs.Formats.{goes-at}
+use Rattle.header_in_place.proofs.gather.length_byte.Statement.{statement}
+use Rattle.header_in_place.proofs.gather.length_byte.Tie as tie
+
+gathered-requires : tie.Need-gathered-requires
+gathered-requires c κs = search needs
+
+type-next-requires : tie.Need-type-next-requires
+type-next-requires c κs = search needs
+
+returns : tie.Need-returns
+unfolding lengthField
+returns c = let s = c .before .before .before .before .before in let g = c .before .before .before .before .gathered in c .type-next .ensures ∙ (rw (le-leb (s .args .h .lacks) 1 (c .before .before .if1 .taken), g .ensures))
+
+sub-goes : tie.Need-sub-goes
+sub-goes c = search needs
+
+goes-requires : tie.Need-goes-requires
+goes-requires c κs = search needs
+
+returns-2 : tie.Need-returns-2
+unfolding lengthField
+returns-2 c = let s = c .before .before .before .before .before in let g = c .before .before .before .before .gathered in c .goes .ensures ∙ goes-at (s .args .h) (s .pre) (MessageLength (g .result) (s .args .h .lacks - 1)) ∙ (rw (lt-leb (s .args .h .lacks) 1 (c .before .before .if1 .left), g .ensures))
+
+pub length-byte-spec : {M : Type 1} → statement M
+length-byte-spec =
+    tie.close
+    (tie.spec gathered-requires type-next-requires returns sub-goes goes-requires returns-2)

@@ -1,0 +1,194 @@
+// The basic header.
+ghost use mathlib.Core.Path.{_≡_};
+ghost use mathlib.Core.List.{[], _∷_};
+ghost use Rattle.byte_machine.specs.Reader.{at, go};
+ghost use Prim.Native.Nat.{_≤_, _<_};
+ghost use Rattle.chunk_header.specs.Table.{formatOf, typeOf};
+ghost use Rattle.byte_machine.specs.Step.{claims as Machine·claims, known as Machine·known, named as Machine·named};
+ghost use Rattle.header_in_place.specs.Byte.{Says, bytesOf, doneOf, keptOf};
+ghost use Rattle.header_in_place.specs.Numbers.{formatFrom, readerFrom, rowFrom, stageIn};
+use crate::numbers::Done;
+use crate::numbers::Held;
+use crate::numbers::HeldRow;
+use crate::numbers::goes;
+use crate::numbers::refused;
+use crate::refusals::basic_refusal;
+use crate::settle::timestamp_next;
+use crate::table::row_in;
+use byte_machine::ROWS;
+use byte_machine::find;
+
+// The type that a first byte says.
+fn type_in(first: u32) -> u32
+    ensures { λ r. ⌜ r ≡ typeOf (formatOf first) ⌝ }
+{
+    if first < 64 {
+        return 0;
+    }
+    if first < 128 {
+        return 1;
+    }
+    if first < 192 {
+        return 2;
+    }
+    3
+}
+
+// A chunk of a stream that has a row.
+fn known(h: Held, format: u32, row: HeldRow, place: u32) -> Done
+    requires { ⌜ format ≤ 3 ⌝ }
+    ensures { λ r. ⌜ r ≡ doneOf h (Machine·known (h .room) (h .size) (readerFrom h) (formatFrom format) (rowFrom row) place) ⌝ }
+{
+    timestamp_next(Held {
+        room: h.room,
+        size: h.size,
+        closed: h.closed,
+        stage: h.stage,
+        number: h.number,
+        lacks: h.lacks,
+        format: format,
+        place: place,
+        left: 0,
+        id: h.id,
+        got: h.got,
+        before: row,
+        header: row,
+    })
+}
+
+// A chunk of a stream that claims a free row.
+fn claims(h: Held, format: u32, id: u32, place: u32) -> Done
+    requires { ⌜ format ≤ 3 ⌝ }
+    ensures { λ r. ⌜ r ≡ doneOf h (Machine·claims (readerFrom h) (formatFrom format) id place) ⌝ }
+{
+    let row = HeldRow {
+        id: id,
+        time: 0,
+        field: 0,
+        length: 0,
+        kind: 0,
+        stream: 0,
+    };
+    let next = Held {
+        room: h.room,
+        size: h.size,
+        closed: h.closed,
+        stage: 3,
+        number: 0,
+        lacks: 3,
+        format: format,
+        place: place,
+        left: 0,
+        id: h.id,
+        got: h.got,
+        before: row,
+        header: row,
+    };
+    Done {
+        held: next,
+        event: 0,
+        number: 0,
+        place: place,
+    }
+}
+
+// The last byte of a basic header that says this id.
+pub fn named(h: Held, rows: &[u32; 384], first: u32, id: u32) -> Done
+    ensures { λ r. ⌜ r ≡ doneOf h (Machine·named (h .room) (h .size) (now (rows .entry)) (readerFrom h) (formatOf first) id) ⌝ }
+{
+    let format = type_in(first);
+    let place = find(rows, id);
+    if place < ROWS {
+        let k = basic_refusal(format, true, true, h.id != 0, h.id == id);
+        if k != 0 {
+            return refused(h, k);
+        }
+        let row = row_in(rows, place);
+        return known(h, format, row, place as u32);
+    }
+    let unused = find(rows, 0);
+    let k = basic_refusal(format, false, unused < ROWS, h.id != 0, h.id == id);
+    if k != 0 {
+        return refused(h, k);
+    }
+    claims(h, format, id, unused as u32)
+}
+
+// What a basic header says so far: its first byte, and an id; 0: more of it has to come.
+pub struct Said {
+    pub first: u32,
+    pub id: u32,
+}
+
+fn one(a: u32) -> Said
+    ensures { λ r. ⌜ Says r (a ∷ []) ⌝ }
+{
+    let n = a % 64;
+    if n < 2 {
+        return Said { first: a, id: 0 };
+    }
+    Said { first: a, id: n }
+}
+
+fn two(a: u32, b: u32) -> Said
+    requires { ⌜ b ≤ 255 ⌝ }
+    ensures { λ r. ⌜ Says r (a ∷ b ∷ []) ⌝ }
+{
+    let n = a % 64;
+    if n == 0 {
+        let id = b + 64;
+        return Said { first: a, id: id };
+    }
+    if n == 1 {
+        return Said { first: a, id: 0 };
+    }
+    Said { first: a, id: n }
+}
+
+fn three(a: u32, b: u32, c: u32) -> Said
+    requires { ⌜ (b ≤ 255) × (c ≤ 255) ⌝ }
+    ensures { λ r. ⌜ Says r (a ∷ b ∷ c ∷ []) ⌝ }
+{
+    let n = a % 64;
+    if n == 0 {
+        let id = b + 64;
+        return Said { first: a, id: id };
+    }
+    if n == 1 {
+        let id = 256 * c + b + 64;
+        return Said { first: a, id: id };
+    }
+    Said { first: a, id: n }
+}
+
+// At the three stages of a basic header.
+pub fn says(h: Held, byte: u8) -> Said
+    requires { ⌜ h .stage < 3 ⌝ }
+    ensures { λ r. ⌜ Says r (bytesOf (stageIn h) byte) ⌝ }
+{
+    let last = byte as u32;
+    if h.stage == 0 {
+        return one(last);
+    }
+    if h.stage == 1 {
+        return two(h.number, last);
+    }
+    let second = h.lacks % 256;
+    three(h.number, second, last)
+}
+
+// Kept, until more of it has come.
+pub fn keeps(h: Held, byte: u8) -> Done
+    requires { ⌜ (h .format ≤ 3) × (h .stage < 3) ⌝ }
+    ensures { λ r. ⌜ r ≡ doneOf h (go (at (readerFrom h) (keptOf (stageIn h) byte))) ⌝ }
+{
+    let last = byte as u32;
+    if h.stage == 0 {
+        return goes(h, 1, last, 0);
+    }
+    if h.stage == 1 {
+        return goes(h, 2, h.number, last);
+    }
+    let second = h.lacks % 256;
+    goes(h, 2, h.number, second)
+}

@@ -1,0 +1,83 @@
+// A byte of a field.
+ghost use mathlib.Core.Path.{_≡_};
+ghost use Prim.Native.Nat.{_≤_};
+ghost use Rattle.byte_machine.specs.Step.{extendedField, gathered as Machine·gathered, lengthField, streamField, timestampField, typeField};
+ghost use Rattle.header_in_place.specs.Byte.{doneOf};
+ghost use Rattle.header_in_place.specs.Numbers.{readerFrom};
+use crate::numbers::Done;
+use crate::numbers::Held;
+use crate::numbers::goes;
+use crate::settle::extended_next;
+use crate::settle::length_next;
+use crate::settle::settled;
+use crate::settle::stream_next;
+use crate::settle::type_next;
+use fields::swap_bytes;
+
+// One byte more of a number.
+fn gathered(before: u32, byte: u8) -> u32
+    ensures { λ r. ⌜ r ≡ Machine·gathered before byte ⌝ }
+{
+    before % 16777216 * 256 + byte as u32
+}
+
+pub fn timestamp_byte(h: Held, byte: u8) -> Done
+    requires { ⌜ h .format ≤ 3 ⌝ }
+    ensures { λ r. ⌜ r ≡ doneOf h (timestampField (h .room) (h .size) (readerFrom h) (h .number) (h .lacks) byte) ⌝ }
+{
+    let number = gathered(h.number, byte);
+    if h.lacks <= 1 {
+        let mut next = h;
+        next.header.field = number;
+        return length_next(next);
+    }
+    goes(h, 3, number, h.lacks - 1)
+}
+
+pub fn length_byte(h: Held, byte: u8) -> Done
+    requires { ⌜ h .format ≤ 3 ⌝ }
+    ensures { λ r. ⌜ r ≡ doneOf h (lengthField (h .room) (h .size) (readerFrom h) (h .number) (h .lacks) byte) ⌝ }
+{
+    let number = gathered(h.number, byte);
+    if h.lacks <= 1 {
+        let mut next = h;
+        next.header.length = number;
+        return type_next(next);
+    }
+    goes(h, 4, number, h.lacks - 1)
+}
+
+pub fn type_byte(h: Held, byte: u8) -> Done
+    requires { ⌜ h .format ≤ 3 ⌝ }
+    ensures { λ r. ⌜ r ≡ doneOf h (typeField (h .room) (h .size) (readerFrom h) byte) ⌝ }
+{
+    let kind = byte as u32;
+    let mut next = h;
+    next.header.kind = kind;
+    stream_next(next)
+}
+
+pub fn stream_byte(h: Held, byte: u8) -> Done
+    requires { ⌜ h .format ≤ 3 ⌝ }
+    ensures { λ r. ⌜ r ≡ doneOf h (streamField (h .room) (h .size) (readerFrom h) (h .number) (h .lacks) byte) ⌝ }
+{
+    let number = gathered(h.number, byte);
+    if h.lacks <= 1 {
+        let swapped = swap_bytes(number);
+        let mut next = h;
+        next.header.stream = swapped;
+        return extended_next(next);
+    }
+    goes(h, 6, number, h.lacks - 1)
+}
+
+pub fn extended_byte(h: Held, byte: u8) -> Done
+    requires { ⌜ h .format ≤ 3 ⌝ }
+    ensures { λ r. ⌜ r ≡ doneOf h (extendedField (h .room) (h .size) (readerFrom h) (h .number) (h .lacks) byte) ⌝ }
+{
+    let number = gathered(h.number, byte);
+    if h.lacks <= 1 {
+        return settled(h, number);
+    }
+    goes(h, 7, number, h.lacks - 1)
+}

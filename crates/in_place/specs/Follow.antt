@@ -1,0 +1,76 @@
+-- Further chunks of a message in one run, over numbers: when they may follow, and what a run of them ensures.
+use Prim.Native.Nat.{ℕ, _+_, _-_, _*_, _≤_, min}
+use mathlib.Core.Bool.{Bool, false}
+use mathlib.Core.List.{List}
+use mathlib.Core.Logic.{_≢_}
+use mathlib.Core.Path.{_≡_}
+use lib.Dec.{leb}
+use lib.ListN.{drop, getD, length}
+use Rattle.chunk_header.specs.Limits.{maxField}
+use Rattle.chunk_meaning.specs.declared.Row.{Row}
+use Rattle.byte_machine.specs.Rows.{putRow}
+use Rattle.deserializer.specs.Call.{run}
+use Rattle.deserializer.specs.Further.{Amid, Next, gone}
+use Rattle.deserializer.specs.Turn.{whole}
+use Rattle.deserializer.specs.declared.call.Core.{Core}
+use Rattle.header_in_place.specs.declared.numbers.Held.{Held}
+use Rattle.header_in_place.specs.declared.numbers.HeldRow.{HeldRow}
+use Rattle.header_in_place.specs.Numbers.{again, decode}
+use Rattle.in_place.specs.declared.further.Gone.{Gone}
+
+-- between two chunks of a message whose stream's id fits one byte
+pub record Paused (held : List ℕ) : Type 0 where
+  pub stage : getD held 3 0 ≡ 0
+  pub least : 2 ≤ getD held 9 0
+  pub most : getD held 9 0 ≤ 63
+
+abbrev pub Apart : Bool → (held : List ℕ) → Type 0
+Apart b held = b ≡ false → Paused held
+
+-- a row that stays as it is where it is put over itself, without extended time, of a message within the room
+pub record Plain (rows : List ℕ) (place : ℕ) (row : HeldRow) (room : ℕ) : Type 0 where
+  pub own : leb 256 (getD rows (6 * place + 4) 0) ≡ false
+  pub plain : row .field ≢ maxField
+  pub fits : row .length ≤ room
+
+abbrev pub Other : Bool → (rows : List ℕ) → (place : ℕ) → HeldRow → (room : ℕ) → Type 0
+Other b rows place row room = b ≡ false → Plain rows place row room
+
+-- so many chunks taken: of whatever decoder stands between two chunks of that message, nothing else changes
+pub record Goes (g : Gone) (size id long come : ℕ) (input : List ℕ) (start : ℕ) (payload payload′ : List ℕ) : Type 0 where
+  pub on : start ≤ g .at
+  pub within : g .at ≤ length input
+  pub still : g .at ≡ start → g .got ≡ come
+  pub none : g .at ≡ start → payload′ ≡ payload
+  pub first : g .at ≢ start → Next input start id come long (min size (long - come))
+  pub runs : (c : Core) (rows : List ℕ) (place : ℕ) (r : Row) → c .«max_chunk_size» ≡ size → r .id ≡ id → r .«message_length» ≡ long
+      → Amid (whole (gone c place r come) rows) place r
+      → putRow rows place r ≡ rows
+      → run (drop start input) (whole (gone c place r come) rows) payload start
+      ≡ run (drop (g .at) input) (whole (gone c place r (g .got)) rows) payload′ (g .at)
+
+-- after a chunk that has ended, the run goes on after those that follow
+pub record Follows (r : ℕ) (held rows input : List ℕ) (at : ℕ) (payload held′ payload′ : List ℕ) : Type 0 where
+  pub on : at ≤ r
+  pub within : r ≤ length input
+  pub room : getD held′ 0 0 ≡ getD held 0 0
+  pub kept : held ≡ again held → held′ ≡ again held′
+  pub runs : run (drop at input) (decode held rows) payload at ≡ run (drop r input) (decode held′ rows) payload′ r
+
+-- the numbers after them
+abbrev pub goneTo : (held : List ℕ) → (place : ℕ) → HeldRow → (got : ℕ) → Held
+goneTo held place row got = record {
+  room = getD held 0 0;
+  size = getD held 1 0;
+  closed = getD held 2 0;
+  stage = 0;
+  number = 0;
+  lacks = 0;
+  format = 3;
+  place = place;
+  left = 0;
+  id = getD held 9 0;
+  got = got;
+  before = row;
+  header = row;
+}

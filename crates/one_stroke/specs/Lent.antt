@@ -1,0 +1,13 @@
+-- What a call leaves of a decoder that is lent: the numbers, the table and the payload buffer that the definition says.
+use Prim.Native.Nat.{ℕ}
+use mathlib.Core.List.{List}
+use mathlib.Core.Path.{_≡_}
+use Rattle.deserializer.specs.Answer.{Listed}
+use Rattle.deserializer.specs.Call.{Outcome}
+use Rattle.header_in_place.specs.Numbers.{encode}
+
+pub record Lent (answer : Listed) (held rows payload : List ℕ) (o : Outcome) : Type 0 where
+  pub answer-is : answer ≡ o .answer
+  pub numbers : held ≡ encode (o .deserializer)
+  pub table : rows ≡ o .deserializer .rows
+  pub buffer : payload ≡ o .payload
