@@ -7,14 +7,14 @@ ghost use Rattle.drop_plan.specs.Check.{judged};
 ghost use Rattle.drop_plan.specs.Plan.{planned};
 ghost use Rattle.drop_plan.specs.Queue.{queue};
 
-mod check;
+mod judging;
 mod keep;
 mod queue;
 
-use crate::check::include;
-use crate::check::kept_length;
-use crate::check::lie_in;
-use crate::check::rise;
+use crate::judging::include;
+use crate::judging::kept_length;
+use crate::judging::lie_in;
+use crate::judging::rise;
 use crate::keep::first_to_stay;
 use crate::keep::keep_from;
 use crate::keep::rest_length;

@@ -6,8 +6,8 @@ use borrow.Author.Tests.{lt-ltb, le-ltb}
 use lib.ListN.{length, drop, getD}
 use Rattle.drop_plan.specs.Check.{rising}
 use Rattle.drop_plan.proofs.Steps.{rising-next, rising-last}
-use Rattle.drop_plan.proofs.check.rise.Statement.{statement}
-use Rattle.drop_plan.proofs.check.rise.Tie as tie
+use Rattle.drop_plan.proofs.judging.rise.Statement.{statement}
+use Rattle.drop_plan.proofs.judging.rise.Tie as tie
 
 abbrev Inv-loop : tie.InvT-loop
 Inv-loop places i₀ i = (1 ≤ i) × (i - 1 ≤ length places) × (rising places ≡ rising (drop (i - 1) places))

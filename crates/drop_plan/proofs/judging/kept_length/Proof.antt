@@ -6,8 +6,8 @@ use borrow.Author.Needs.{needs}
 use lib.ListN.{length, drop, getD, drop-of-length-le}
 use Rattle.drop_plan.specs.Queue.{total}
 use Rattle.drop_plan.proofs.Steps.{total-next}
-use Rattle.drop_plan.proofs.check.kept_length.Statement.{statement}
-use Rattle.drop_plan.proofs.check.kept_length.Tie as tie
+use Rattle.drop_plan.proofs.judging.kept_length.Statement.{statement}
+use Rattle.drop_plan.proofs.judging.kept_length.Tie as tie
 
 abbrev Inv-loop : tie.InvT-loop
 Inv-loop lengths places sum₀ i₀ sum i = (i ≤ length places) × (sum ≤ 4294967295 * i) × (sum + total lengths (drop i places) ≡ total lengths places)

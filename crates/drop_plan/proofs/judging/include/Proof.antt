@@ -10,8 +10,8 @@ use lib.ListN.{length, getD}
 use Rattle.drop_plan.specs.Check.{among, every, includes}
 use Rattle.drop_plan.specs.Queue.{placesFrom, queue}
 use Rattle.drop_plan.proofs.Steps.{every-place, places-all, places-none}
-use Rattle.drop_plan.proofs.check.include.Statement.{statement}
-use Rattle.drop_plan.proofs.check.include.Tie as tie
+use Rattle.drop_plan.proofs.judging.include.Statement.{statement}
+use Rattle.drop_plan.proofs.judging.include.Tie as tie
 
 -- a packet is droppable, or among the places
 abbrev passes : List Bool → List ℕ → ℕ → Bool

@@ -7,8 +7,8 @@ use borrow.Author.Tests.{eq-eqb, ne-eqb}
 use lib.ListN.{length, drop, drop-of-length-le}
 use Rattle.drop_plan.specs.Check.{among}
 use Rattle.drop_plan.proofs.Steps.{among-next}
-use Rattle.drop_plan.proofs.check.contains.Statement.{statement}
-use Rattle.drop_plan.proofs.check.contains.Tie as tie
+use Rattle.drop_plan.proofs.judging.contains.Statement.{statement}
+use Rattle.drop_plan.proofs.judging.contains.Tie as tie
 
 abbrev Inv-loop : tie.InvT-loop
 Inv-loop places place i₀ i = (i ≤ length places) × (among place places ≡ among place (drop i places))

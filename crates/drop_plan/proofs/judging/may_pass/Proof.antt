@@ -1,8 +1,8 @@
 -- Each way out is one of the definition's two.
 use mathlib.Core.Path.{sym, _∙_}
 use borrow.Author.Needs.{needs}
-use Rattle.drop_plan.proofs.check.may_pass.Statement.{statement}
-use Rattle.drop_plan.proofs.check.may_pass.Tie as tie
+use Rattle.drop_plan.proofs.judging.may_pass.Statement.{statement}
+use Rattle.drop_plan.proofs.judging.may_pass.Tie as tie
 
 is-droppable-requires : tie.Need-is-droppable-requires
 is-droppable-requires c κs = search needs

@@ -8,8 +8,8 @@ use lib.Dec.{ltb}
 use lib.ListN.{length, drop, getD, drop-of-length-le}
 use Rattle.drop_plan.specs.Check.{every, within}
 use Rattle.drop_plan.proofs.Steps.{every-next}
-use Rattle.drop_plan.proofs.check.lie_in.Statement.{statement}
-use Rattle.drop_plan.proofs.check.lie_in.Tie as tie
+use Rattle.drop_plan.proofs.judging.lie_in.Statement.{statement}
+use Rattle.drop_plan.proofs.judging.lie_in.Tie as tie
 
 abbrev Inv-loop : tie.InvT-loop
 Inv-loop size places i₀ i = (i ≤ length places) × (within size places ≡ within size (drop i places))
