@@ -1,6 +1,6 @@
 -- Chunks that follow change nothing but the payload and how much of the message has come, so that a run of them is taken before
 -- the numbers are stored.
-use Prim.Native.Nat.{ℕ, _+_, _-_, _*_, _≤_, _<_, min}
+use Prim.Native.Nat.{ℕ, _+_, _-_, _≤_, _<_, min}
 use mathlib.Core.Path.{_≡_, refl, sym, ap, _∙_}
 use mathlib.Core.Logic.{_≢_}
 use mathlib.Core.Bool.{Bool, true, false}
@@ -11,17 +11,17 @@ use lib.ListN.{drop, getD, length, take}
 use lib.Seq.{sets}
 use borrow.Author.Tests.{eqb-false, eqb-true}
 use Rattle.chunk_meaning.specs.declared.Row.{Row}
-use Rattle.byte_machine.specs.Rows.{find, putRow, rowAt, rowOrEmpty}
+use Rattle.byte_machine.specs.Rows.{find, rowAt, rowOrEmpty}
 use Rattle.byte_machine.proofs.RowLaws.{in-table}
 use Rattle.deserializer.specs.Call.{Outcome, run}
-use Rattle.deserializer.specs.Further.{Amid, Begins, Next, gone}
+use Rattle.deserializer.specs.Further.{Begins, Next, gone}
 use Rattle.deserializer.specs.Turn.{whole}
 use Rattle.deserializer.specs.declared.ChunkDeserializer.{ChunkDeserializer}
 use Rattle.deserializer.specs.declared.call.Core.{Core}
 use Rattle.deserializer.proofs.Cut.{run-shift, shift}
 use Rattle.deserializer.proofs.FurtherOn.{amid-gone, begins-at, core-on}
 use Rattle.header_in_place.specs.declared.numbers.HeldRow.{HeldRow}
-use Rattle.header_in_place.specs.Numbers.{again, decode, encode, heldIn, heldRowOf, numbersOf, readerFrom}
+use Rattle.header_in_place.specs.Numbers.{decode, encode, heldIn, heldRowOf, numbersOf, readerFrom}
 use Rattle.header_in_place.proofs.Again.{decode-encode}
 use Rattle.header_in_place.proofs.Stages.{is-csid}
 use Rattle.in_place.specs.declared.further.Gone.{Gone}

@@ -7,16 +7,13 @@ use mathlib.Core.List.{List, _∷_}
 use native.Mathlib.Omega.{arith}
 use lib.Dec.{eqb, leb, ltb}
 use lib.ListN.{drop, getD, length, take, length-take, take-append-drop}
-use lib.Seq.{sets}
 use borrow.Author.Tests.{leb-false, leb-true}
 use Rattle.fields.specs.Output.{stored}
 use Rattle.fields.proofs.Lists.{stored-fits}
 use Rattle.byte_machine.specs.Payload.{landed, paid}
 use Rattle.byte_machine.specs.Reader.{ended, go, inPayload, paused}
 use Rattle.byte_machine.specs.declared.reader.Reader.{Reader}
-use Rattle.byte_machine.specs.declared.reader.Stage.{Stage}
-use Rattle.deserializer.specs.Call.{after, isRefusal, run}
-use Rattle.deserializer.specs.declared.ChunkDeserializer.{ChunkDeserializer}
+use Rattle.deserializer.specs.Call.{after, run}
 use Rattle.deserializer.proofs.Runs.{bulk, landed-not-refused, pays-tells, run-broken, run-header, then}
 use Rattle.header_in_place.specs.Byte.{Left, eventOf, stepIn}
 use Rattle.header_in_place.specs.Numbers.{decode, heldIn, readerFrom}

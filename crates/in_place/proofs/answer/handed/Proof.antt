@@ -1,5 +1,5 @@
 -- Each value is a number of the header that is held.
-use mathlib.Core.Path.{ap, _∙_}
+use mathlib.Core.Path.{ap}
 use borrow.Author.Needs.{needs}
 use Rattle.deserializer.specs.Call.{read}
 use Rattle.header_in_place.specs.Numbers.{readerFrom}

@@ -8,7 +8,6 @@ use Rattle.fields.specs.Output.{stored}
 use Rattle.byte_machine.specs.Payload.{landed}
 use Rattle.byte_machine.specs.declared.reader.Stepped.{Stepped}
 use Rattle.header_in_place.specs.declared.numbers.Held.{Held}
-use Rattle.header_in_place.specs.declared.numbers.Done.{Done}
 use Rattle.header_in_place.specs.Byte.{Left, doneOf}
 use Rattle.header_in_place.specs.Numbers.{decode, heldIn, readerFrom}
 use Rattle.header_in_place.proofs.Formats.{type-small}

@@ -1,6 +1,5 @@
 -- Type by type: those of type 0 and 1 have a message type, which its length says.
 use Prim.Native.Nat.{_≤_}
-use mathlib.Core.Path.{_∙_}
 use native.Mathlib.Omega.{arith}
 use lib.ListN.{length}
 use Rattle.chunk_header.specs.Table.{fieldLength, headerLength}

@@ -1,6 +1,6 @@
 -- Where every test is passed, what is seen is the chunk that the input begins with.
 use Prim.Native.Nat.{ℕ, _+_}
-use mathlib.Core.Path.{_≡_, ap, _∙_}
+use mathlib.Core.Path.{ap, _∙_}
 use native.Mathlib.Omega.{arith}
 use lib.ListN.{getD}
 use Rattle.chunk_header.specs.Table.{typeOf}

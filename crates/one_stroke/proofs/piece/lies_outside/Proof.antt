@@ -1,6 +1,5 @@
 -- Where every test is passed, the piece is one.
 use mathlib.Core.Path.{sym}
-use mathlib.Core.Bool.{true}
 use lib.ListN.{getD}
 use native.Mathlib.Omega.{arith}
 use borrow.Author.Tests.{leb-false}

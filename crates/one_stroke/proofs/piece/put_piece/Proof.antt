@@ -3,9 +3,8 @@ use Prim.Native.Nat.{ℕ}
 use mathlib.Core.Path.{_≡_, sym, ap, _∙_}
 use mathlib.Core.List.{List, [], _∷_}
 use native.Mathlib.Omega.{arith}
-use lib.ListN.{drop, getD, length, drop-of-length-le}
+use lib.ListN.{getD, drop-of-length-le}
 use lib.Seq.{sets}
-use Rattle.fields.specs.Output.{stored}
 use Rattle.fields.proofs.Lists.{stored-fits, stored-none}
 use Rattle.deserializer.proofs.Runs.{byte-at}
 use borrow.Author.Needs.{needs}

@@ -1,17 +1,14 @@
 -- The bytes of such a piece, one by one, are one copy and smaller counts.
 use Prim.Native.Nat.{ℕ, _+_, _-_}
-use mathlib.Core.Path.{_≡_, sym, ap, refl, _∙_}
-use mathlib.Core.List.{List, []}
+use mathlib.Core.Path.{sym, ap, refl, _∙_}
+use mathlib.Core.List.{[]}
 use native.Mathlib.Omega.{arith}
 use lib.ListN.{getD, length}
 use Rattle.fields.specs.Output.{stored}
 use Rattle.fields.proofs.Tests.{never}
 use Rattle.byte_machine.specs.Payload.{paid}
-use Rattle.deserializer.specs.Answer.{more}
-use Rattle.deserializer.specs.Call.{next}
-use Rattle.deserializer.specs.Within.{Lies}
 use Rattle.header_in_place.specs.declared.numbers.Held.{Held}
-use Rattle.header_in_place.specs.Numbers.{decode, heldIn, heldOf, numbersOf, readerFrom}
+use Rattle.header_in_place.specs.Numbers.{heldOf, numbersOf, readerFrom}
 use Rattle.header_in_place.proofs.Formats.{type-small}
 use Rattle.one_stroke.proofs.Strokes.{piece-taken}
 use borrow.Author.Needs.{needs}
