@@ -13,14 +13,8 @@ use Rattle.chunk_header.specs.Basic.{csid}
 use Rattle.chunk_header.specs.Limits.{maxField}
 use Rattle.chunk_header.specs.Table.{formatOf}
 use Rattle.chunk_meaning.specs.Meaning.{basicRefusal, firstRefusal, laterRefusal}
-use Rattle.byte_machine.specs.declared.reader.Event.the-variants.{Go}
-use Rattle.byte_machine.specs.declared.reader.Reader.{Reader}
-use Rattle.byte_machine.specs.declared.reader.Stage.{Stage}
-use Rattle.byte_machine.specs.declared.reader.Stage.the-variants.{Csid as AtCsid, CsidSecond, CsidThird, InitialTimestamp, MessageLength, MessageTypeId, MessageStreamId, ExtendedTimestamp, MessagePayload}
-use Rattle.byte_machine.specs.declared.reader.Stepped.{Stepped}
-use Rattle.byte_machine.specs.declared.reader.Unfinished.{Unfinished}
+use Rattle.byte_machine.specs.Reader.{Go, Reader, Stage, Csid as AtCsid, CsidSecond, CsidThird, InitialTimestamp, MessageLength, MessageTypeId, MessageStreamId, ExtendedTimestamp, MessagePayload, Stepped, Unfinished, at, atStart, comeOf, go, guard, inPayload, refuse}
 use Rattle.byte_machine.specs.Header.{extendedNext, lacks, lengthNext, opens, stageOf, streamNext, timestampNext, typeNext, whole}
-use Rattle.byte_machine.specs.Reader.{at, atStart, comeOf, go, guard, inPayload, refuse}
 use Rattle.byte_machine.specs.Rows.{find, free}
 use Rattle.byte_machine.specs.Step.{basicBy, extendedField, lengthField, named, stepped, streamField, timestampField, typeField}
 use Rattle.byte_machine.proofs.Passing.{at-length, at-stream, at-timestamp, at-type, either, tested}

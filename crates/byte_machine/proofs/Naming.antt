@@ -7,9 +7,8 @@ use mathlib.Core.List.{List}
 use lib.Dec.{ltb, eqb}
 use borrow.Author.Tests.{lt-ltb, le-ltb, eq-eqb, ne-eqb}
 use Rattle.chunk_header.specs.declared.ChunkHeaderFormat.{ChunkHeaderFormat}
-use Rattle.byte_machine.specs.declared.reader.Reader.{Reader}
+use Rattle.byte_machine.specs.Reader.{Reader, refuse}
 use Rattle.byte_machine.specs.Step.{claims, known, named}
-use Rattle.byte_machine.specs.Reader.{refuse}
 use Rattle.chunk_meaning.specs.Meaning.{basicRefusal}
 use Rattle.byte_machine.specs.Rows.{find, free, rowAt}
 

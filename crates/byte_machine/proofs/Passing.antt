@@ -5,10 +5,8 @@ use mathlib.Core.Path.{_≡_, refl}
 use lib.Dec.{eqb}
 use Rattle.chunk_header.specs.declared.HeaderField.{HeaderField}
 use Rattle.chunk_header.specs.declared.HeaderField.the-variants.{Timestamp, MessageLength, MessageTypeId, MessageStreamId}
-use Rattle.byte_machine.specs.declared.reader.Reader.{Reader}
-use Rattle.byte_machine.specs.declared.reader.Stepped.{Stepped}
+use Rattle.byte_machine.specs.Reader.{Reader, Stepped, at, go}
 use Rattle.byte_machine.specs.Header.{extendedNext, fieldNext, lacks, lengthNext, stageOf, streamNext, timestampNext, typeNext}
-use Rattle.byte_machine.specs.Reader.{at, go}
 
 -- a test, with what it tells
 pub tested : (P : Stepped → Type 0) (t : Bool) {a b : Stepped} → (t ≡ true → P a) → (t ≡ false → P b) → P (cond t a b)

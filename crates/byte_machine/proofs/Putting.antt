@@ -11,8 +11,7 @@ use lib.ListN.{length, getD, length-append}
 use borrow.Author.Tests.{eqb-false, eqb-true, lt-ltb, ltb-true, ltb-false}
 use Rattle.fields.specs.Cases.{among}
 use Rattle.fields.proofs.Tests.{Decides, equal, in-words, less, never, one-of, same-test}
-use Rattle.chunk_meaning.specs.declared.Row.{Row}
-use Rattle.chunk_meaning.specs.Stored.{claimed}
+use Rattle.chunk_meaning.specs.Stored.{Row, claimed}
 use Rattle.byte_machine.specs.Rows.{find, free, ownRow, putOwn, putRow}
 use Rattle.byte_machine.proofs.RowLaws.{Distinct, alone-none, alone-there, distinct-put, find-is, find-other, find-put, find-tells, found, id-other, id-put, length-putRow, row-other, row-put}
 

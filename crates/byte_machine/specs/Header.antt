@@ -8,11 +8,7 @@ use Rattle.chunk_header.specs.Limits.{maxField}
 use Rattle.chunk_header.specs.Table.{typeOf, indexOf, fieldLength}
 use Rattle.chunk_meaning.specs.Meaning.{firstTime, laterRefusal, firstRefusal}
 use Rattle.chunk_meaning.specs.Stored.{timed}
-use Rattle.byte_machine.specs.declared.reader.Reader.{Reader}
-use Rattle.byte_machine.specs.declared.reader.Stage.{Stage}
-use Rattle.byte_machine.specs.declared.reader.Stage.the-variants.{InitialTimestamp, MessageLength, MessageTypeId, MessageStreamId, ExtendedTimestamp, MessagePayload}
-use Rattle.byte_machine.specs.declared.reader.Stepped.{Stepped}
-use Rattle.byte_machine.specs.Reader.{at, current, ended, go, headed, reader, refuse, unfinished}
+use Rattle.byte_machine.specs.Reader.{Reader, Stage, InitialTimestamp, MessageLength, MessageTypeId, MessageStreamId, ExtendedTimestamp, MessagePayload, Stepped, at, current, ended, go, headed, reader, refuse, unfinished}
 
 -- the payload of a chunk: "the smaller of the chunk size and what the message still lacks". A message of no bytes ends here
 unfoldable pub opens : (size : ℕ) → Reader → (got : ℕ) → Stepped

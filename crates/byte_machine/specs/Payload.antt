@@ -2,9 +2,7 @@
 use Prim.Native.Nat.{ℕ, _+_, _-_}
 use mathlib.Core.Bool.{Bool, cond, not, _&&_}
 use lib.Dec.{ltb, leb, eqb}
-use Rattle.byte_machine.specs.declared.reader.Reader.{Reader}
-use Rattle.byte_machine.specs.declared.reader.Stepped.{Stepped}
-use Rattle.byte_machine.specs.Reader.{current, ended, go, paused, reader, unfinished}
+use Rattle.byte_machine.specs.Reader.{Reader, Stepped, current, ended, go, paused, reader, unfinished}
 
 -- a reader in a payload lacks a byte at least, and its chunk ends within the room; no call makes another one
 unfoldable pub pays : (room : ℕ) → Reader → Bool

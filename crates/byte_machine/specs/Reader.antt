@@ -3,15 +3,52 @@ use Prim.Native.Nat.{ℕ}
 use mathlib.Core.Bool.{Bool, true, false, cond}
 use lib.Dec.{eqb}
 use Rattle.chunk_header.specs.declared.ChunkHeaderFormat.{ChunkHeaderFormat}
-use Rattle.chunk_meaning.specs.declared.Row.{Row}
-use Rattle.byte_machine.specs.declared.reader.Current.{Current}
-use Rattle.byte_machine.specs.declared.reader.Event.the-variants.{Go, Chunk, Message, Refuse}
-use Rattle.byte_machine.specs.declared.reader.Reader.{Reader}
-use Rattle.byte_machine.specs.declared.reader.Stage.{Stage}
-use Rattle.byte_machine.specs.declared.reader.Stage.the-variants.{Csid, CsidSecond, CsidThird, InitialTimestamp, MessageLength, MessageTypeId, MessageStreamId, ExtendedTimestamp, MessagePayload}
-use Rattle.byte_machine.specs.declared.reader.Stepped.{Stepped}
-use Rattle.byte_machine.specs.declared.reader.Unfinished.{Unfinished}
+use Rattle.chunk_meaning.specs.Stored.{Row}
 use Rattle.byte_machine.specs.Rows.{rowCount}
+
+-- the field that the next byte belongs to. One of several bytes has what was gathered of it, and how many bytes it lacks
+pub data Stage : Type 0 where
+  Csid : Stage
+  CsidSecond : (first : ℕ) → Stage
+  CsidThird : (first second : ℕ) → Stage
+  InitialTimestamp : (gathered lacks : ℕ) → Stage
+  MessageLength : (gathered lacks : ℕ) → Stage
+  MessageTypeId : Stage
+  MessageStreamId : (gathered lacks : ℕ) → Stage
+  ExtendedTimestamp : (gathered lacks : ℕ) → Stage
+  MessagePayload : Stage
+
+-- the chunk at hand: its format, the place of its stream's row, that row as the chunk found it, the header as far as it is read,
+-- and how many payload bytes the chunk lacks
+pub record Current : Type 0 where
+  pub format : ChunkHeaderFormat
+  pub place : ℕ
+  pub before : Row
+  pub header : Row
+  pub left : ℕ
+
+-- the unfinished message: its chunk stream, 0 where there is none, and how many of its bytes have come
+pub record Unfinished : Type 0 where
+  pub id : ℕ
+  pub got : ℕ
+
+pub record Reader : Type 0 where
+  pub stage : Stage
+  pub chunk : Current
+  pub message : Unfinished
+
+-- what a byte settled. A message says that its chunk is finished too
+pub data Event : Type 0 where
+  Go : Event
+  Chunk : Event
+  Message : Event
+  Refuse : (number : ℕ) → Event
+
+-- what a byte does: the next reader, the event, and the place at which its header becomes a row; 64: none does
+pub record Stepped : Type 0 where
+  pub reader : Reader
+  pub event : Event
+  pub place : ℕ
 
 -- the parts of a reader put together
 abbrev pub reader : Stage → Current → Unfinished → Reader

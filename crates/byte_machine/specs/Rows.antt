@@ -6,8 +6,7 @@ use mathlib.Core.Option.{Option, none, some}
 use lib.Dec.{ltb, eqb}
 use lib.ListN.{getD}
 use lib.Seq.{sets}
-use Rattle.chunk_meaning.specs.declared.Row.{Row}
-use Rattle.chunk_meaning.specs.Stored.{claimed, row}
+use Rattle.chunk_meaning.specs.Stored.{Row, claimed, row}
 
 abbrev pub rowCount : ℕ
 rowCount = 64

@@ -10,16 +10,10 @@ use Rattle.chunk_header.specs.declared.Csid.{Csid}
 use Rattle.chunk_header.specs.declared.Csid.the-variants.{Id, Incomplete}
 use Rattle.chunk_header.specs.Basic.{csid}
 use Rattle.chunk_header.specs.Table.{formatOf}
-use Rattle.chunk_meaning.specs.declared.Row.{Row}
+use Rattle.chunk_meaning.specs.Stored.{Row, claimed, fielded, lengthed, streamed, typed}
 use Rattle.chunk_meaning.specs.Meaning.{basicRefusal}
-use Rattle.chunk_meaning.specs.Stored.{claimed, fielded, lengthed, streamed, typed}
-use Rattle.byte_machine.specs.declared.reader.Event.the-variants.{Go}
-use Rattle.byte_machine.specs.declared.reader.Reader.{Reader}
-use Rattle.byte_machine.specs.declared.reader.Stage.{Stage}
-use Rattle.byte_machine.specs.declared.reader.Stage.the-variants.{Csid as AtCsid, CsidSecond, CsidThird, InitialTimestamp, MessageLength, MessageTypeId, MessageStreamId, ExtendedTimestamp, MessagePayload}
-use Rattle.byte_machine.specs.declared.reader.Stepped.{Stepped}
+use Rattle.byte_machine.specs.Reader.{Go, Reader, Stage, Csid as AtCsid, CsidSecond, CsidThird, InitialTimestamp, MessageLength, MessageTypeId, MessageStreamId, ExtendedTimestamp, MessagePayload, Stepped, at, go, guard, headed, reading, refuse}
 use Rattle.byte_machine.specs.Header.{extendedNext, lengthNext, streamNext, timestampNext, typeNext, whole}
-use Rattle.byte_machine.specs.Reader.{at, go, guard, headed, reading, refuse}
 use Rattle.byte_machine.specs.Rows.{find, free, rowAt, rowCount}
 
 -- a chunk of a stream that has a row, and one that claims a free row: a type 0, whose first field is the time of three bytes

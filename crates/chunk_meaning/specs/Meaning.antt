@@ -8,7 +8,7 @@ use Rattle.time.specs.Clock.{sum}
 use Rattle.chunk_header.specs.declared.ChunkHeaderFormat.{ChunkHeaderFormat}
 use Rattle.chunk_header.specs.Limits.{maxField}
 use Rattle.chunk_header.specs.Table.{isEmpty, isFull}
-use Rattle.chunk_meaning.specs.declared.Row.{Row}
+use Rattle.chunk_meaning.specs.Stored.{Row}
 
 -- "type 0 sets the time. Other types add the delta once, at the first chunk of a message"
 abbrev pub firstTime : ChunkHeaderFormat → (before number : ℕ) → ℕ

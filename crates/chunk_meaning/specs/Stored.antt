@@ -1,6 +1,14 @@
 -- What is stored of a chunk stream: its id, and the last time, time field, length, type and message stream.
 use Prim.Native.Nat.{ℕ}
-use Rattle.chunk_meaning.specs.declared.Row.{Row}
+use Rattle.time.specs.declared.RtmpTimestamp.{RtmpTimestamp}
+
+pub record Row : Type 0 where
+  pub id : ℕ
+  pub timestamp : RtmpTimestamp
+  pub «timestamp_field» : ℕ
+  pub «message_length» : ℕ
+  pub «message_type_id» : ℕ
+  pub «message_stream_id» : ℕ
 
 abbrev pub row : (id time field length type stream : ℕ) → Row
 row id time field length type stream = record {

@@ -2,9 +2,8 @@
 use Prim.Native.Nat.{ℕ, _%_, _<_}
 use mathlib.Core.Path.{_≡_, refl}
 use native.Mathlib.Omega.{arith}
-use Rattle.byte_machine.specs.declared.reader.Stage.{Stage}
-use Rattle.byte_machine.specs.declared.reader.Stage.the-variants.{Csid, CsidSecond, CsidThird, InitialTimestamp, MessageLength, MessageTypeId, MessageStreamId, ExtendedTimestamp, MessagePayload}
-use Rattle.deserializer.specs.declared.ChunkDeserializer.{ChunkDeserializer}
+use Rattle.byte_machine.specs.Reader.{Stage, Csid, CsidSecond, CsidThird, InitialTimestamp, MessageLength, MessageTypeId, MessageStreamId, ExtendedTimestamp, MessagePayload}
+use Rattle.decoding.specs.Decoder.{Decoder}
 use Rattle.header_in_place.specs.Numbers.{codeOf, decode, encode, lacksOf, numberOf, stageFrom}
 use Rattle.header_in_place.proofs.Keeping.{from-again}
 
@@ -32,5 +31,5 @@ stage-again (MessageStreamId n lacks) h = refl
 stage-again (ExtendedTimestamp n lacks) h = refl
 stage-again MessagePayload h = refl
 
-pub decode-encode : (d : ChunkDeserializer) → third (d .reader .stage) < 256 → decode (encode d) (d .rows) ≡ d
+pub decode-encode : (d : Decoder) → third (d .reader .stage) < 256 → decode (encode d) (d .rows) ≡ d
 decode-encode d h = rw (stage-again (d .reader .stage) h, from-again (d .reader .chunk .format), from-again (d .reader .chunk .format))

@@ -11,10 +11,8 @@ use borrow.Author.Tests.{ne-eqb, le-leb, lt-leb}
 use Rattle.chunk_header.specs.declared.ChunkHeaderFormat.{ChunkHeaderFormat}
 use Rattle.chunk_header.specs.declared.ChunkHeaderFormat.the-variants.{Full, TimeDeltaWithoutMessageStreamId, TimeDeltaOnly, Empty}
 use Rattle.chunk_header.specs.Table.{isEmpty, isFull, typeOf, fieldLength, formatOf}
-use Rattle.byte_machine.specs.declared.reader.Stage.{Stage}
-use Rattle.byte_machine.specs.declared.reader.Stage.the-variants.{InitialTimestamp, MessageLength, MessageTypeId, MessageStreamId}
+use Rattle.byte_machine.specs.Reader.{Stage, InitialTimestamp, MessageLength, MessageTypeId, MessageStreamId, at, go}
 use Rattle.byte_machine.specs.Header.{extendedNext, lengthNext, streamNext, timestampNext, typeNext}
-use Rattle.byte_machine.specs.Reader.{at, go}
 use Rattle.header_in_place.specs.declared.numbers.Held.{Held}
 use Rattle.header_in_place.specs.Byte.{doneOf, goesTo}
 use Rattle.header_in_place.specs.Numbers.{codeOf, formatFrom, lacksOf, numberOf, readerFrom}

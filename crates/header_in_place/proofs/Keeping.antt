@@ -9,12 +9,9 @@ use Rattle.chunk_header.specs.declared.ChunkHeaderFormat.{ChunkHeaderFormat}
 use Rattle.chunk_header.specs.declared.ChunkHeaderFormat.the-variants.{Full, TimeDeltaWithoutMessageStreamId, TimeDeltaOnly, Empty}
 use Rattle.chunk_header.specs.Table.{typeOf}
 use Rattle.chunk_meaning.specs.Meaning.{basicRefusal}
-use Rattle.byte_machine.specs.declared.reader.Event.{Event}
-use Rattle.byte_machine.specs.declared.reader.Event.the-variants.{Go, Chunk, Message, Refuse}
-use Rattle.byte_machine.specs.declared.reader.Reader.{Reader}
-use Rattle.byte_machine.specs.declared.reader.Stepped.{Stepped}
+use Rattle.byte_machine.specs.Reader.{Event, Go, Chunk, Message, Refuse, Reader, Stepped}
 use Rattle.byte_machine.specs.Rows.{putAt}
-use Rattle.deserializer.specs.Call.{after}
+use Rattle.decoding.specs.Call.{after}
 use Rattle.header_in_place.specs.declared.numbers.Held.{Held}
 use Rattle.header_in_place.specs.Byte.{Left, doneOf, eventOf, refusalOf}
 use Rattle.header_in_place.specs.Numbers.{formatFrom, heldOf, meant, numbersOf, readerFrom, rowFrom}

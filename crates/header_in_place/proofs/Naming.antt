@@ -9,10 +9,9 @@ use borrow.Author.Tests.{lt-ltb, le-ltb}
 use Rattle.chunk_header.specs.declared.ChunkHeaderFormat.{ChunkHeaderFormat}
 use Rattle.chunk_header.specs.Table.{formatOf, typeOf}
 use Rattle.chunk_meaning.specs.Meaning.{basicRefusal}
-use Rattle.byte_machine.specs.Reader.{refuse}
+use Rattle.byte_machine.specs.Reader.{refuse, Stepped}
 use Rattle.byte_machine.specs.Rows.{find, free, rowAt}
 use Rattle.byte_machine.specs.Step.{claims, known, named}
-use Rattle.byte_machine.specs.declared.reader.Stepped.{Stepped}
 use Rattle.byte_machine.proofs.Naming.{named-refused, named-known, named-claims}
 use Rattle.header_in_place.specs.declared.numbers.Held.{Held}
 use Rattle.header_in_place.specs.Byte.{doneOf}

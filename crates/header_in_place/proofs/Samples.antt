@@ -3,11 +3,10 @@ use Prim.Native.Nat.{ℕ}
 use mathlib.Core.Path.{_≡_, refl}
 use mathlib.Core.List.{List, [], _∷_}
 use Rattle.chunk_header.specs.declared.ChunkHeaderFormat.the-variants.{TimeDeltaOnly, Empty}
-use Rattle.byte_machine.specs.declared.reader.Stage.the-variants.{CsidThird, InitialTimestamp, MessagePayload}
-use Rattle.byte_machine.specs.Reader.{current, reader, unfinished}
+use Rattle.byte_machine.specs.Reader.{CsidThird, InitialTimestamp, MessagePayload, current, reader, unfinished}
 use Rattle.chunk_meaning.specs.Stored.{row}
-use Rattle.deserializer.specs.Told.{fresh}
-use Rattle.deserializer.specs.declared.ChunkDeserializer.{ChunkDeserializer}
+use Rattle.decoding.specs.Told.{fresh}
+use Rattle.decoding.specs.Decoder.{Decoder}
 use Rattle.header_in_place.specs.Numbers.{again, decode, encode, formatFrom, stageFrom}
 
 -- a decoder to which nothing has come, of 4096 bytes of room
@@ -16,7 +15,7 @@ fresh-numbers : encode (fresh 4096 0)
 fresh-numbers = refl
 
 -- two bytes of a time have come, 1 and 2, of a chunk of type 2 of stream 5, whose row is the third and has 40 ms, 7 bytes, type 9
-abbrev begun : ChunkDeserializer
+abbrev begun : Decoder
 begun = record {
   room = 4096;
   «max_chunk_size» = 128;

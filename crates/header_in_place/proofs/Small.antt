@@ -17,16 +17,12 @@ use Rattle.chunk_meaning.specs.Meaning.{basicRefusal, firstRefusal, firstTime, 
 use Rattle.chunk_meaning.specs.Stored.{fielded, lengthed, streamed, timed, typed}
 use Rattle.fields.specs.Endian.{swapped}
 use Rattle.chunk_header.specs.Limits.{maxField}
-use Rattle.byte_machine.specs.declared.reader.Reader.{Reader}
-use Rattle.byte_machine.specs.declared.reader.Stage.{Stage}
-use Rattle.byte_machine.specs.declared.reader.Stage.the-variants.{Csid, CsidSecond, CsidThird, InitialTimestamp, MessageLength, MessageTypeId, MessageStreamId, ExtendedTimestamp, MessagePayload}
-use Rattle.byte_machine.specs.declared.reader.Stepped.{Stepped}
+use Rattle.byte_machine.specs.Reader.{Reader, Stage, Csid, CsidSecond, CsidThird, InitialTimestamp, MessageLength, MessageTypeId, MessageStreamId, ExtendedTimestamp, MessagePayload, Stepped, at, go, headed, reading, refuse}
 use Rattle.byte_machine.specs.Header.{extendedNext, lacks, opens, stageOf, whole}
-use Rattle.byte_machine.specs.Reader.{at, go, headed, reading, refuse}
 use Rattle.byte_machine.specs.Rows.{find, free, rowAt}
 use Rattle.byte_machine.specs.Step.{basicBy, claims, extendedField, gathered, lengthField, named, stepped, streamField, timestampField, typeField}
 use Rattle.byte_machine.proofs.Passing.{at-length, at-stream, at-timestamp, at-type, either}
-use Rattle.deserializer.specs.Call.{after, isRefusal}
+use Rattle.decoding.specs.Call.{after, isRefusal}
 use Rattle.header_in_place.specs.Byte.{Left, stepIn}
 use Rattle.header_in_place.specs.Numbers.{decode, stageFrom}
 use Rattle.header_in_place.proofs.Again.{decode-encode, third}

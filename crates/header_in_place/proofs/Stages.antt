@@ -10,10 +10,7 @@ use lib.ListN.{getD}
 use borrow.Author.Tests.{ne-eqb}
 use Rattle.chunk_header.specs.Table.{formatOf}
 use Rattle.chunk_header.specs.Basic.{csid}
-use Rattle.byte_machine.specs.declared.reader.Reader.{Reader}
-use Rattle.byte_machine.specs.declared.reader.Stage.{Stage}
-use Rattle.byte_machine.specs.declared.reader.Stage.the-variants.{Csid, CsidSecond, CsidThird, InitialTimestamp, MessageLength, MessageTypeId, MessageStreamId, ExtendedTimestamp, MessagePayload}
-use Rattle.byte_machine.specs.Reader.{inPayload}
+use Rattle.byte_machine.specs.Reader.{Reader, Stage, Csid, CsidSecond, CsidThird, InitialTimestamp, MessageLength, MessageTypeId, MessageStreamId, ExtendedTimestamp, MessagePayload, inPayload}
 use Rattle.byte_machine.specs.Rows.{find, seek}
 use Rattle.byte_machine.specs.Step.{basicBy, stepped}
 use Rattle.header_in_place.specs.Byte.{bytesOf, keptOf}

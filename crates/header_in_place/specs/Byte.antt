@@ -7,18 +7,13 @@ use mathlib.Core.Path.{_≡_}
 use lib.ListN.{getD}
 use Rattle.chunk_header.specs.declared.Csid.the-variants.{Id, Incomplete}
 use Rattle.chunk_header.specs.Basic.{csid}
-use Rattle.byte_machine.specs.declared.reader.Stage.{Stage}
-use Rattle.byte_machine.specs.declared.reader.Stage.the-variants.{Csid, CsidSecond, CsidThird, InitialTimestamp, MessageLength, MessageTypeId, MessageStreamId, ExtendedTimestamp, MessagePayload}
+use Rattle.byte_machine.specs.Reader.{Stage, Csid, CsidSecond, CsidThird, InitialTimestamp, MessageLength, MessageTypeId, MessageStreamId, ExtendedTimestamp, MessagePayload, Event, Go, Chunk, Message, Refuse, Stepped, headed}
 use Rattle.header_in_place.specs.declared.basic.Said.{Said}
-use Rattle.byte_machine.specs.declared.reader.Event.{Event}
-use Rattle.byte_machine.specs.declared.reader.Event.the-variants.{Go, Chunk, Message, Refuse}
-use Rattle.byte_machine.specs.declared.reader.Stepped.{Stepped}
 use Rattle.byte_machine.specs.Header.{opens}
-use Rattle.byte_machine.specs.Reader.{headed}
 use Rattle.byte_machine.specs.Step.{stepped}
 use Rattle.chunk_meaning.specs.Stored.{timed}
-use Rattle.deserializer.specs.Call.{after, isRefusal}
-use Rattle.deserializer.specs.declared.ChunkDeserializer.{ChunkDeserializer}
+use Rattle.decoding.specs.Call.{after, isRefusal}
+use Rattle.decoding.specs.Decoder.{Decoder}
 use Rattle.header_in_place.specs.declared.numbers.Held.{Held}
 use Rattle.header_in_place.specs.declared.numbers.Done.{Done}
 use Rattle.header_in_place.specs.Numbers.{encode, heldOf, heldRow, readerFrom, rowFrom}
@@ -55,11 +50,11 @@ abbrev pub openedTo : Held → (time got : ℕ) → Stepped
 openedTo h time got = opens (h .size) (headed (readerFrom h) (timed (rowFrom (h .header)) time)) got
 
 -- a byte of a header
-abbrev pub stepIn : ChunkDeserializer → (byte : ℕ) → Stepped
+abbrev pub stepIn : Decoder → (byte : ℕ) → Stepped
 stepIn d b = stepped (d .reader .stage) (d .room) (d .«max_chunk_size») (d .rows) (d .reader) b
 
 -- what a byte of a header leaves of a decoder that is lent
-pub record Left (event : ℕ) (held rows : List ℕ) (d : ChunkDeserializer) (s : Stepped) : Type 0 where
+pub record Left (event : ℕ) (held rows : List ℕ) (d : Decoder) (s : Stepped) : Type 0 where
   pub event-is : event ≡ eventOf (s .event)
   pub numbers : held ≡ encode (after d s)
   pub table : rows ≡ after d s .rows

@@ -19,13 +19,9 @@ use Rattle.fields.specs.Cases.{_when_, first}
 use Rattle.chunk_header.specs.declared.ChunkHeaderFormat.{ChunkHeaderFormat}
 use Rattle.chunk_header.specs.declared.ChunkHeaderFormat.the-variants.{Full, TimeDeltaWithoutMessageStreamId, TimeDeltaOnly, Empty}
 use Rattle.chunk_header.specs.Table.{typeOf}
-use Rattle.chunk_meaning.specs.declared.Row.{Row}
-use Rattle.chunk_meaning.specs.Stored.{row}
-use Rattle.byte_machine.specs.declared.reader.Reader.{Reader}
-use Rattle.byte_machine.specs.declared.reader.Stage.{Stage}
-use Rattle.byte_machine.specs.declared.reader.Stage.the-variants.{Csid, CsidSecond, CsidThird, InitialTimestamp, MessageLength, MessageTypeId, MessageStreamId, ExtendedTimestamp, MessagePayload}
-use Rattle.byte_machine.specs.Reader.{current, reader, unfinished}
-use Rattle.deserializer.specs.declared.ChunkDeserializer.{ChunkDeserializer}
+use Rattle.chunk_meaning.specs.Stored.{Row, row}
+use Rattle.byte_machine.specs.Reader.{Reader, Stage, Csid, CsidSecond, CsidThird, InitialTimestamp, MessageLength, MessageTypeId, MessageStreamId, ExtendedTimestamp, MessagePayload, current, reader, unfinished}
+use Rattle.decoding.specs.Decoder.{Decoder}
 use Rattle.header_in_place.specs.declared.numbers.Held.{Held}
 use Rattle.header_in_place.specs.declared.numbers.HeldRow.{HeldRow}
 
@@ -149,13 +145,13 @@ numbersOf h =
     ∷ 0 ∷ []
 
 -- the decoder that numbers mean, and the numbers that stand for a decoder
-abbrev pub meant : Held → (rows : List ℕ) → ChunkDeserializer
+abbrev pub meant : Held → (rows : List ℕ) → Decoder
 meant h rows = record { room = h .room; «max_chunk_size» = h .size; closed = h .closed; reader = readerFrom h; rows = rows }
 
-abbrev pub decode : (held rows : List ℕ) → ChunkDeserializer
+abbrev pub decode : (held rows : List ℕ) → Decoder
 decode held rows = meant (heldIn held) rows
 
-abbrev pub encode : ChunkDeserializer → List ℕ
+abbrev pub encode : Decoder → List ℕ
 encode d = numbersOf (heldOf (d .room) (d .«max_chunk_size») (d .closed) (d .reader))
 
 -- the same decoder, in the numbers that stand for it

@@ -15,8 +15,8 @@ use crate::numbers::refused;
 use crate::refusals::basic_refusal;
 use crate::settle::timestamp_next;
 use crate::table::row_in;
-use byte_machine::ROWS;
-use byte_machine::find;
+use crate::table::ROWS;
+use crate::table::find;
 
 // The type that a first byte says.
 fn type_in(first: u32) -> u32

@@ -15,8 +15,8 @@ use crate::numbers::Held;
 use crate::numbers::HeldRow;
 use crate::numbers::goes;
 use crate::numbers::refused;
-use byte_machine::lacking;
-use byte_machine::least;
+use crate::amounts::lacking;
+use crate::amounts::least;
 use chunk_header::MAX_INITIAL_TIMESTAMP;
 
 // The payload of a chunk. A message of no bytes ends here.

@@ -1,10 +1,26 @@
-// Rows of the table, as numbers.
+// The table of 64 header rows, lent as numbers: six a row, and a row of id 0 is free.
 ghost use mathlib.Core.Path.{_≡_};
 ghost use Prim.Native.Nat.{_<_};
 ghost use Rattle.byte_machine.specs.Rows.{putAt, putRow, rowAt, rowOrEmpty};
+ghost use Rattle.byte_machine.specs.Rows.{find as Rows·find};
 ghost use Rattle.header_in_place.specs.Numbers.{rowFrom, heldRowOf};
 use crate::numbers::HeldRow;
-use byte_machine::ROWS;
+
+pub const ROWS: usize = 64;
+
+// The first row of this id, or 64.
+pub fn find(rows: &[u32; 384], id: u32) -> usize
+    ensures { λ r. ⌜ r ≡ Rows·find (now (rows .entry)) id ⌝ }
+{
+    let mut i = 0;
+    while i < ROWS {
+        if rows[6 * i] == id {
+            return i;
+        }
+        i += 1;
+    }
+    ROWS
+}
 
 pub fn row_in(rows: &[u32; 384], i: usize) -> HeldRow
     requires { ⌜ i < 64 ⌝ }

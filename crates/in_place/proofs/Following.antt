@@ -10,16 +10,14 @@ use lib.Dec.{eqb}
 use lib.ListN.{drop, getD, length, take}
 use lib.Seq.{sets}
 use borrow.Author.Tests.{eqb-false, eqb-true}
-use Rattle.chunk_meaning.specs.declared.Row.{Row}
-use Rattle.byte_machine.specs.Rows.{find, rowAt, rowOrEmpty}
+use Rattle.chunk_meaning.specs.Stored.{Row}
+use Rattle.byte_machine.specs.Rows.{find, putRow, rowAt, rowOrEmpty}
 use Rattle.byte_machine.proofs.RowLaws.{in-table}
-use Rattle.deserializer.specs.Call.{Outcome, run}
-use Rattle.deserializer.specs.Further.{Begins, Next, gone}
-use Rattle.deserializer.specs.Turn.{whole}
-use Rattle.deserializer.specs.declared.ChunkDeserializer.{ChunkDeserializer}
-use Rattle.deserializer.specs.declared.call.Core.{Core}
-use Rattle.deserializer.proofs.Cut.{run-shift, shift}
-use Rattle.deserializer.proofs.FurtherOn.{amid-gone, begins-at, core-on}
+use Rattle.decoding.specs.Call.{Outcome, run}
+use Rattle.decoding.specs.Further.{Amid, Next, gone}
+use Rattle.decoding.specs.Decoder.{Decoder}
+use Rattle.decoding.proofs.Cut.{run-shift, shift}
+use Rattle.decoding.proofs.FurtherOn.{amid-at, amid-gone, further-runs, put-own}
 use Rattle.header_in_place.specs.declared.numbers.HeldRow.{HeldRow}
 use Rattle.header_in_place.specs.Numbers.{decode, encode, heldIn, heldRowOf, numbersOf, readerFrom}
 use Rattle.header_in_place.proofs.Again.{decode-encode}
@@ -39,7 +37,7 @@ module _ (size id long come : ℕ) (input : List ℕ) (start : ℕ) (payload : L
     still = λ _. refl;
     none = λ _. refl;
     first = λ n. absurd (n refl);
-    runs = λ c rows place r e i l a s. refl;
+    runs = λ d place r e i l a s. refl;
   }
 
   -- one more
@@ -55,9 +53,9 @@ module _ (size id long come : ℕ) (input : List ℕ) (start : ℕ) (payload : L
     still = λ z. absurd (omega (arith, z, h .on));
     none = λ z. absurd (omega (arith, z, h .on));
     first = λ _. by-start (eqb (g .at) start) refl;
-    runs = λ c rows place r size-is i l a s.
-        h .runs c rows place r size-is i l a s
-        ∙ core-on (gone c place r (g .got)) rows input payload₁ (g .at) place n r (amid-gone (gone c place r come) rows place (g .got) r a) s (rw (i, l) w) (rw (size-is, l) e)
+    runs = λ d place r size-is i l a s.
+        h .runs d place r size-is i l a s
+        ∙ further-runs (gone d place r (g .got)) input payload₁ (g .at) place n r (amid-gone (gone d place r come) place (g .got) r a) s (rw (i, l) w) (rw (size-is, l) e)
         ∙ (rw (← b, q));
   }
     where
@@ -73,9 +71,9 @@ follows-none held rows input at payload k = record { on = omega arith; within = 
 
 -- some do
 module _ (held rows input : List ℕ) (at place : ℕ) (payload : List ℕ) (row : HeldRow) (p : Paused held) (place-is : place ≡ find rows (getD held 9 0)) (found : place < 64)
-    (row-is : row ≡ heldRowOf (rowOrEmpty rows place)) (k : Plain rows place row (getD held 0 0)) (there : at ≤ length input) (room : getD held 0 0 ≤ length payload) where
-  abbrev core : Core
-  core = record { room = getD held 0 0; «max_chunk_size» = getD held 1 0; closed = getD held 2 0; reader = readerFrom (heldIn held) }
+    (row-is : row ≡ heldRowOf (rowOrEmpty rows place)) (k : Plain rows place row (getD held 0 0)) where
+  abbrev d : Decoder
+  d = decode held rows
 
   abbrev r : Row
   r = rowAt rows place
@@ -83,41 +81,38 @@ module _ (held rows input : List ℕ) (at place : ℕ) (payload : List ℕ) (row
   its-row : row ≡ heldRowOf r
   its-row = row-is ∙ ap (λ (x : Row). heldRowOf x) (in-table rows place found)
 
-  begins : Begins core rows place r input at payload
-  begins =
-      begins-at core rows input payload place at r (is-csid (getD held 3 0) (getD held 4 0) (getD held 5 0) (p .stage)) (p .least) (p .most) place-is found (k .own) refl
-      (rw its-row at (k .plain))
-      (rw its-row at (k .fits))
-      there
-      room
+  amid : Amid d place r
+  amid =
+      amid-at d place (is-csid (getD held 3 0) (getD held 4 0) (getD held 5 0) (p .stage)) (p .least) (p .most) place-is found (rw its-row at (k .plain)) (rw its-row at (k .fits))
+
+  same : putRow rows place r ≡ rows
+  same = put-own rows place (k .own)
 
   -- what came before the first of them does not count
   as-gone : Next input at (getD held 9 0) (getD held 10 0) (r .«message_length») (min (getD held 1 0) (r .«message_length» - getD held 10 0))
-      → run (drop at input) (decode held rows) payload at ≡ run (drop at input) (whole (gone core place r (getD held 10 0)) rows) payload at
+      → run (drop at input) d payload at ≡ run (drop at input) (gone d place r (getD held 10 0)) payload at
   as-gone w =
-      let a = begins .amid in
       let n = min (getD held 1 0) (r .«message_length» - getD held 10 0) in
-      let w′ : Next input at (r .id) (getD held 10 0) (r .«message_length») n = rw (← a .message) w in
-      core-on core rows input payload at place n r a (begins .same) w′ refl
-      ∙ sym (core-on (gone core place r (getD held 10 0)) rows input payload at place n r (amid-gone core rows place (getD held 10 0) r a) (begins .same) w′ refl)
+      let w′ : Next input at (r .id) (getD held 10 0) (r .«message_length») n = rw (← amid .message) w in
+      further-runs d input payload at place n r amid same w′ refl
+      ∙ sym (further-runs (gone d place r (getD held 10 0)) input payload at place n r (amid-gone d place (getD held 10 0) r amid) same w′ refl)
 
   pub follows-some : (g : Gone) (held′ payload′ : List ℕ) → Goes g (getD held 1 0) (getD held 9 0) (row .length) (getD held 10 0) input at payload payload′ → g .at ≢ at
       → held′ ≡ numbersOf (goneTo held place row (g .got))
       → Follows (g .at) held rows input at payload held′ payload′
   follows-some g held′ payload′ h moved e =
-      let a = begins .amid in
-      let d : ChunkDeserializer = whole (gone core place r (g .got)) rows in
+      let d′ = gone d place r (g .got) in
       let long : row .length ≡ r .«message_length» = ap (λ (x : HeldRow). x .length) its-row in
-      let numbers : held′ ≡ encode d = e ∙ (rw (its-row, a .message)) in
-      let means : decode held′ rows ≡ d = rw numbers (decode-encode d (omega arith)) in
+      let numbers : held′ ≡ encode d′ = e ∙ (rw (its-row, amid .message)) in
+      let means : decode held′ rows ≡ d′ = rw numbers (decode-encode d′ (omega arith)) in
       record {
         on = h .on;
         within = h .within;
         room = ap (λ (l : List ℕ). getD l 0 0) e;
-        kept = λ _. numbers ∙ ap (λ (x : ChunkDeserializer). encode x) (sym means);
+        kept = λ _. numbers ∙ ap (λ (x : Decoder). encode x) (sym means);
         runs =
             as-gone (rw long at (h .first moved))
-            ∙ h .runs core rows place r refl (sym (a .message)) (sym long) (amid-gone core rows place (getD held 10 0) r a) (begins .same)
+            ∙ h .runs d place r refl (sym (amid .message)) (sym long) (amid-gone d place (getD held 10 0) r amid) same
             ∙ (rw (← means));
       }
 

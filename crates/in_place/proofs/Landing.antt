@@ -11,10 +11,9 @@ use borrow.Author.Tests.{leb-false, leb-true}
 use Rattle.fields.specs.Output.{stored}
 use Rattle.fields.proofs.Lists.{stored-fits}
 use Rattle.byte_machine.specs.Payload.{landed, paid}
-use Rattle.byte_machine.specs.Reader.{ended, go, inPayload, paused}
-use Rattle.byte_machine.specs.declared.reader.Reader.{Reader}
-use Rattle.deserializer.specs.Call.{after, run}
-use Rattle.deserializer.proofs.Runs.{bulk, landed-not-refused, pays-tells, run-broken, run-header, then}
+use Rattle.byte_machine.specs.Reader.{ended, go, inPayload, paused, Reader}
+use Rattle.decoding.specs.Call.{after, run}
+use Rattle.decoding.proofs.Runs.{bulk, landed-not-refused, pays-tells, run-broken, run-header, then}
 use Rattle.header_in_place.specs.Byte.{Left, eventOf, stepIn}
 use Rattle.header_in_place.specs.Numbers.{decode, heldIn, readerFrom}
 use Rattle.header_in_place.proofs.Again.{decode-encode, third}

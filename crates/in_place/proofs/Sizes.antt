@@ -8,8 +8,8 @@ use native.Mathlib.Omega.{arith}
 use borrow.Author.Tests.{eq-eqb, ne-eqb, lt-ltb, le-ltb}
 use Rattle.chunk_header.specs.Limits.{maxSize}
 use Rattle.byte_machine.specs.Reader.{atStart}
-use Rattle.deserializer.specs.Told.{Outcome, Size, between, fresh, made, maxRoom, outcome, refused, sized, taken, told}
-use Rattle.deserializer.specs.declared.ChunkDeserializer.{ChunkDeserializer}
+use Rattle.decoding.specs.Told.{Outcome, Size, between, fresh, made, maxRoom, outcome, refused, sized, taken, told}
+use Rattle.decoding.specs.Decoder.{Decoder}
 use Rattle.header_in_place.specs.Numbers.{again, decode, encode, stageFrom}
 use Rattle.header_in_place.proofs.Stages.{is-payload}
 use Rattle.in_place.specs.Answer.{LentSize, LentTold, Stands}
@@ -41,7 +41,7 @@ module _ (room : ℕ) where
   unfolding made
   made-fits h k = rw (ne-eqb room 0 h, le-ltb maxRoom room k)
 
-pub made-lent : (o : Outcome) (answer : Size) (d : ChunkDeserializer) (held rows : List ℕ) → o ≡ outcome answer d → Stands held rows d → LentSize answer held rows o
+pub made-lent : (o : Outcome) (answer : Size) (d : Decoder) (held rows : List ℕ) → o ≡ outcome answer d → Stands held rows d → LentSize answer held rows o
 made-lent o answer d held rows e s = rw e (record { answer-is = refl; stands = s })
 
 -- a size, to a decoder of any table
@@ -49,7 +49,7 @@ module _ (held : List ℕ) (size : ℕ) (held′ : List ℕ) where
   abbrev Says : (rows : List ℕ) → Outcome → Type 0
   Says rows o = told (decode held rows) size ≡ o
 
-  told-lent : (answer : Size) (after : List ℕ → ChunkDeserializer) → ((rows : List ℕ) → Says rows (outcome answer (after rows))) → ((rows : List ℕ) → Stands held′ rows (after rows))
+  told-lent : (answer : Size) (after : List ℕ → Decoder) → ((rows : List ℕ) → Says rows (outcome answer (after rows))) → ((rows : List ℕ) → Stands held′ rows (after rows))
       → LentTold answer held size held′
   told-lent answer after e s = record { beside = λ rows. made-lent (told (decode held rows) size) answer (after rows) held′ rows (e rows) (s rows) }
 
@@ -63,7 +63,7 @@ module _ (held : List ℕ) (size : ℕ) (held′ : List ℕ) where
   told-taken k says = told-lent taken (λ rows. sized (decode held rows) size) says (λ rows. record { numbers = k; table = refl })
 
 -- what is told a decoder, by the first line that holds
-module _ (d : ChunkDeserializer) (size : ℕ) where
+module _ (d : Decoder) (size : ℕ) where
   pub says-closed : d .closed ≢ 0 → told d size ≡ outcome (refused (d .closed)) d
   unfolding told
   says-closed h = rw (ne-eqb (d .closed) 0 h)

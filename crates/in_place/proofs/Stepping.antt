@@ -7,15 +7,12 @@ use native.Mathlib.Omega.{arith}
 use lib.ListN.{drop, getD, length, take, length-drop}
 use lib.Seq.{drop-drop, take-all}
 use borrow.Author.Tests.{ne-eqb}
-use Rattle.byte_machine.specs.declared.reader.Event.{Event}
-use Rattle.byte_machine.specs.declared.reader.Event.the-variants.{Go, Chunk, Message, Refuse}
-use Rattle.byte_machine.specs.declared.reader.Reader.{Reader}
-use Rattle.byte_machine.specs.declared.reader.Stepped.{Stepped}
+use Rattle.byte_machine.specs.Reader.{Event, Go, Chunk, Message, Refuse, Reader, Stepped}
 use Rattle.byte_machine.specs.Rows.{putAt}
-use Rattle.deserializer.specs.Answer.{Listed, refused}
-use Rattle.deserializer.specs.Call.{Outcome, after, outcome, read, run}
-use Rattle.deserializer.specs.declared.ChunkDeserializer.{ChunkDeserializer}
-use Rattle.deserializer.proofs.Runs.{then}
+use Rattle.decoding.specs.Answer.{Listed, refused}
+use Rattle.decoding.specs.Call.{Outcome, after, outcome, read, run}
+use Rattle.decoding.specs.Decoder.{Decoder}
+use Rattle.decoding.proofs.Runs.{then}
 use Rattle.header_in_place.specs.Byte.{Left, doneOf, eventOf}
 use Rattle.header_in_place.specs.Numbers.{again, decode, encode, meant, numbersOf, rowFrom}
 use Rattle.header_in_place.specs.declared.numbers.Done.{Done}
@@ -35,7 +32,7 @@ pub kept : (h : Held) (rows held′ rows′ : List ℕ) (done : Done) (s : Stepp
 kept h rows held′ rows′ done s e ne numbers table = rw (numbers, table, e) (left-kept h rows (s .reader) (s .event) (s .place) ne)
 
 -- what follows a step, by the number of what it settled
-by-number : (d : ChunkDeserializer) (r : Reader) (e : Event) (p : ℕ) (payload : List ℕ) (used : ℕ) (rest : List ℕ)
+by-number : (d : Decoder) (r : Reader) (e : Event) (p : ℕ) (payload : List ℕ) (used : ℕ) (rest : List ℕ)
     → then d (step r e p) payload used rest ≡ follows (eventOf e) (after d (step r e p)) payload used rest
 unfolding follows after
 by-number d r Go p payload used rest = refl
@@ -44,7 +41,7 @@ by-number d r Message p payload used rest = refl
 by-number d r (Refuse k) p payload used rest = refl
 
 module _ (m : Moved) (held rows input payload held′ rows′ payload′ : List ℕ) (s : Stepped) where
-  abbrev d : ChunkDeserializer
+  abbrev d : Decoder
   d = decode held rows
 
   pub turned : Left (m .event) held′ rows′ d s → decode held′ rows′ ≡ after d s → 0 < m .used → m .used ≤ length input
@@ -55,7 +52,7 @@ module _ (m : Moved) (held rows input payload held′ rows′ payload′ : List 
     some = some;
     within = within;
     room = ap (λ (l : List ℕ). getD l 0 0) (left .numbers);
-    kept = left .numbers ∙ ap (λ (x : ChunkDeserializer). encode x) (sym means);
+    kept = left .numbers ∙ ap (λ (x : Decoder). encode x) (sym means);
     runs = λ n.
         runs n
         ∙ by-number d (s .reader) (s .event) (s .place) payload′ (n + m .used) (drop (m .used) input)
@@ -73,7 +70,7 @@ lent o answer held rows payload held′ e k = record {
 }
 
 -- what follows a message, a refusal, and any other turn
-module _ (event : ℕ) (d : ChunkDeserializer) (payload : List ℕ) (used : ℕ) (rest : List ℕ) where
+module _ (event : ℕ) (d : Decoder) (payload : List ℕ) (used : ℕ) (rest : List ℕ) where
   pub follows-message : event ≡ 2 → follows event d payload used rest ≡ outcome (read (d .reader) used) d payload
   unfolding follows
   follows-message e = rw e

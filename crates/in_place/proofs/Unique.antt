@@ -5,9 +5,9 @@ use mathlib.Core.Path.{_≡_, refl, sym, _∙_}
 use mathlib.Core.List.{List}
 use Rattle.fields.specs.Deciding.{Decides}
 use Rattle.fields.proofs.Deciding.{told-decides}
-use Rattle.deserializer.specs.Answer.{Listed, message, more, refused}
-use Rattle.deserializer.specs.Call.{Outcome}
-use Rattle.deserializer.specs.Told.{Size, taken, refused as unsized, Outcome as Telling·Outcome}
+use Rattle.decoding.specs.Answer.{Listed, message, more, refused}
+use Rattle.decoding.specs.Call.{Outcome}
+use Rattle.decoding.specs.Told.{Size, taken, refused as unsized, Outcome as Telling·Outcome}
 use Rattle.one_stroke.specs.Lent.{Lent}
 use Rattle.in_place.specs.declared.answer.Answer.{Answer}
 use Rattle.in_place.specs.declared.answer.Answer.the-variants.{Message, More, Refused}

@@ -2,9 +2,9 @@
 use Prim.Native.Nat.{ℕ}
 use mathlib.Core.List.{List}
 use mathlib.Core.Path.{_≡_}
-use Rattle.deserializer.specs.Answer.{Listed, message, more, refused}
-use Rattle.deserializer.specs.Told.{Size, taken, told, refused as Told·refused, Outcome as Told·Outcome}
-use Rattle.deserializer.specs.declared.ChunkDeserializer.{ChunkDeserializer}
+use Rattle.decoding.specs.Answer.{Listed, message, more, refused}
+use Rattle.decoding.specs.Told.{Size, taken, told, refused as Told·refused, Outcome as Told·Outcome}
+use Rattle.decoding.specs.Decoder.{Decoder}
 use Rattle.header_in_place.specs.Numbers.{decode, encode}
 use Rattle.in_place.specs.declared.answer.Answer.{Answer}
 use Rattle.in_place.specs.declared.answer.Answer.the-variants.{Message, More, Refused as AnswerRefused}
@@ -18,7 +18,7 @@ answerOf (More used) = more used
 answerOf (AnswerRefused number used) = refused number used
 
 -- numbers and a table that stand for a decoder
-pub record Stands (held rows : List ℕ) (d : ChunkDeserializer) : Type 0 where
+pub record Stands (held rows : List ℕ) (d : Decoder) : Type 0 where
   pub numbers : held ≡ encode d
   pub table : rows ≡ d .rows
 

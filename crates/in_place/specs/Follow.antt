@@ -7,12 +7,11 @@ use mathlib.Core.Path.{_≡_}
 use lib.Dec.{leb}
 use lib.ListN.{drop, getD, length}
 use Rattle.chunk_header.specs.Limits.{maxField}
-use Rattle.chunk_meaning.specs.declared.Row.{Row}
+use Rattle.chunk_meaning.specs.Stored.{Row}
 use Rattle.byte_machine.specs.Rows.{putRow}
-use Rattle.deserializer.specs.Call.{run}
-use Rattle.deserializer.specs.Further.{Amid, Next, gone}
-use Rattle.deserializer.specs.Turn.{whole}
-use Rattle.deserializer.specs.declared.call.Core.{Core}
+use Rattle.decoding.specs.Call.{run}
+use Rattle.decoding.specs.Further.{Amid, Next, gone}
+use Rattle.decoding.specs.Decoder.{Decoder}
 use Rattle.header_in_place.specs.declared.numbers.Held.{Held}
 use Rattle.header_in_place.specs.declared.numbers.HeldRow.{HeldRow}
 use Rattle.header_in_place.specs.Numbers.{again, decode}
@@ -43,11 +42,11 @@ pub record Goes (g : Gone) (size id long come : ℕ) (input : List ℕ) (start :
   pub still : g .at ≡ start → g .got ≡ come
   pub none : g .at ≡ start → payload′ ≡ payload
   pub first : g .at ≢ start → Next input start id come long (min size (long - come))
-  pub runs : (c : Core) (rows : List ℕ) (place : ℕ) (r : Row) → c .«max_chunk_size» ≡ size → r .id ≡ id → r .«message_length» ≡ long
-      → Amid (whole (gone c place r come) rows) place r
-      → putRow rows place r ≡ rows
-      → run (drop start input) (whole (gone c place r come) rows) payload start
-      ≡ run (drop (g .at) input) (whole (gone c place r (g .got)) rows) payload′ (g .at)
+  pub runs : (d : Decoder) (place : ℕ) (r : Row) → d .«max_chunk_size» ≡ size → r .id ≡ id → r .«message_length» ≡ long
+      → Amid (gone d place r come) place r
+      → putRow (d .rows) place r ≡ d .rows
+      → run (drop start input) (gone d place r come) payload start
+      ≡ run (drop (g .at) input) (gone d place r (g .got)) payload′ (g .at)
 
 -- after a chunk that has ended, the run goes on after those that follow
 pub record Follows (r : ℕ) (held rows input : List ℕ) (at : ℕ) (payload held′ payload′ : List ℕ) : Type 0 where

@@ -7,15 +7,15 @@ use lib.Dec.{eqb, leb}
 use lib.ListN.{drop, getD, length}
 use Rattle.fields.specs.Cases.{_when_, first}
 use Rattle.byte_machine.specs.Payload.{pays}
-use Rattle.deserializer.specs.Answer.{refused}
-use Rattle.deserializer.specs.Call.{Outcome, outcome, read, run}
-use Rattle.deserializer.specs.declared.ChunkDeserializer.{ChunkDeserializer}
+use Rattle.decoding.specs.Answer.{refused}
+use Rattle.decoding.specs.Call.{Outcome, outcome, read, run}
+use Rattle.decoding.specs.Decoder.{Decoder}
 use Rattle.header_in_place.specs.Numbers.{again, decode, heldIn, readerFrom}
 use Rattle.header_in_place.specs.declared.numbers.Held.{Held}
 use Rattle.in_place.specs.declared.paying.Moved.{Moved}
 
 -- what follows a turn, by the number of what it settled: 2 a message, 3 a refusal, with which the decoder is closed
-unfoldable pub follows : (event : ℕ) → ChunkDeserializer → (payload : List ℕ) → (used : ℕ) → (rest : List ℕ) → Outcome
+unfoldable pub follows : (event : ℕ) → Decoder → (payload : List ℕ) → (used : ℕ) → (rest : List ℕ) → Outcome
 follows event d payload used rest =
     first (outcome (read (d .reader) used) d payload when eqb event 2
     ∷ outcome (refused (d .closed) used) d payload when eqb event 3

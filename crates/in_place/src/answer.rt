@@ -1,7 +1,7 @@
 // What a call answers.
 ghost use mathlib.Core.Path.{_≡_};
-ghost use Rattle.deserializer.specs.Answer.{refused as Answer·refused};
-ghost use Rattle.deserializer.specs.Call.{read};
+ghost use Rattle.decoding.specs.Answer.{refused as Answer·refused};
+ghost use Rattle.decoding.specs.Call.{read};
 ghost use Rattle.header_in_place.specs.Numbers.{heldIn, readerFrom};
 ghost use Rattle.in_place.specs.Answer.{answerOf};
 use header_in_place::held_in;

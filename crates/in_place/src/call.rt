@@ -1,5 +1,5 @@
 // The next message, over what is lent.
-ghost use Rattle.deserializer.specs.Call.{next};
+ghost use Rattle.decoding.specs.Call.{next};
 ghost use Rattle.header_in_place.specs.Numbers.{decode};
 ghost use Rattle.one_stroke.specs.Lent.{Lent};
 ghost use Rattle.in_place.specs.Answer.{answerOf};
@@ -7,7 +7,7 @@ use crate::answer::Answer;
 use crate::answer::handed;
 use crate::answer::refused;
 use crate::turning::turns;
-use byte_machine::wide;
+use header_in_place::wide;
 use header_in_place::renew;
 use one_stroke::at_once;
 use one_stroke::within;

@@ -5,7 +5,7 @@ ghost use Rattle.byte_machine.specs.Payload.{landed as Payload·landed};
 ghost use Rattle.header_in_place.specs.Byte.{doneOf};
 ghost use Rattle.header_in_place.specs.Numbers.{heldIn, readerFrom};
 ghost use Rattle.in_place.specs.Turn.{Ready, Turned, mayPay};
-use byte_machine::wide;
+use header_in_place::wide;
 use fields::least;
 use fields::put_bytes;
 use header_in_place::Done;

@@ -1,7 +1,7 @@
 // Making a decoder in what is lent, and telling it a chunk size.
 ghost use mathlib.Core.List.{[]};
 ghost use mathlib.Core.Path.{_≡_};
-ghost use Rattle.deserializer.specs.Told.{between as Told·between, fresh as Told·fresh, made, refused as Told·refused, sized};
+ghost use Rattle.decoding.specs.Told.{between as Told·between, fresh as Told·fresh, made, refused as Told·refused, sized};
 ghost use Rattle.header_in_place.specs.Numbers.{again, decode, encode, heldIn, readerFrom};
 ghost use Rattle.in_place.specs.Answer.{LentSize, LentTold, Stands, sizeOf};
 use chunk_header::INITIAL_MAX_CHUNK_SIZE;

@@ -1,7 +1,7 @@
 // Turn after turn, up to a message, a refusal or the end of the input.
 ghost use Prim.Native.Nat.{_≤_, _<_};
 ghost use lib.ListN.{getD, length};
-ghost use Rattle.deserializer.specs.Call.{run};
+ghost use Rattle.decoding.specs.Call.{run};
 ghost use Rattle.header_in_place.specs.Numbers.{decode};
 ghost use Rattle.one_stroke.specs.Lent.{Lent};
 ghost use Rattle.in_place.specs.Answer.{answerOf};

@@ -6,9 +6,9 @@ use mathlib.Core.Path.{_≡_, refl, sym, ap, subst, _∙_}
 use native.Mathlib.Omega.{arith}
 use lib.ListN.{length, replicate, take, drop, drop-of-length-le, take-append-drop}
 use lib.Seq.{take-all, take-nil}
-use Rattle.deserializer.specs.Answer.{used}
-use Rattle.deserializer.specs.Call.{Outcome}
-use Rattle.deserializer.proofs.Entries.{next-by}
+use Rattle.decoding.specs.Answer.{used}
+use Rattle.decoding.specs.Call.{Outcome}
+use Rattle.decoding.proofs.Entries.{next-by}
 use Rattle.stream_meaning.specs.Stream.{Message}
 use Rattle.laws.specs.Walk.{Fed, Stand, Teller, before, call, fed, walk}
 use Rattle.laws.specs.Cutting.{AnyTwoWays, CanBeFed, Cases, Cutting, Move, Same, Spent, arrive, arrived, closed, feed, nothing-unread, offer, short}

@@ -5,14 +5,14 @@ use mathlib.Core.Logic.{_≢_}
 use mathlib.Core.Path.{_≡_, refl, sym, ap, subst, _∙_}
 use native.Mathlib.Omega.{arith}
 use lib.ListN.{length, take, drop}
-use Rattle.deserializer.specs.Answer.{Listed, message, more, refused}
-use Rattle.deserializer.specs.Call.{Outcome, next, run}
-use Rattle.deserializer.proofs.Runs.{next-runs}
+use Rattle.decoding.specs.Answer.{Listed, message, more, refused}
+use Rattle.decoding.specs.Call.{Outcome, next, run}
+use Rattle.decoding.proofs.Runs.{next-runs}
 use Rattle.laws.specs.Cutting.{Move, OpenRefusedNothing, arrive, feed, offer, refusalOf, refusals}
 use Rattle.laws.specs.Walk.{Fed, Stand, Teller, answered, call, fed, silent}
 use Rattle.laws.proofs.Cutting.{stays}
 use Rattle.laws.proofs.Walking.{Uses, call-closed, call-is, call-short, closed, ready, short, uses}
-use Rattle.deserializer.proofs.Numbered.{run-refused}
+use Rattle.decoding.proofs.Numbered.{run-refused}
 
 -- no call can use more of it
 pub data Stuck {S : Type 0} (s : Stand S) : Type 0 where

@@ -8,11 +8,11 @@ use native.Mathlib.Omega.{arith}
 use lib.Dec.{eqb, ltb}
 use lib.ListN.{length, drop, length-drop}
 use borrow.Author.Tests.{eqb-false, eqb-true, ltb-false, ltb-true}
-use Rattle.deserializer.specs.Answer.{Listed, message, more, refused, used}
-use Rattle.deserializer.specs.Call.{Outcome, next, run}
-use Rattle.deserializer.proofs.Cut.{feed-answered, feed-append, message-not-more, refused-not-more, shift}
-use Rattle.deserializer.proofs.Progress.{more-uses-all, run-uses, uses-a-byte}
-use Rattle.deserializer.proofs.Runs.{next-closed, next-runs, next-short}
+use Rattle.decoding.specs.Answer.{Listed, message, more, refused, used}
+use Rattle.decoding.specs.Call.{Outcome, next, run}
+use Rattle.decoding.proofs.Cut.{feed-answered, feed-append, message-not-more, refused-not-more, shift}
+use Rattle.decoding.proofs.Progress.{more-uses-all, run-uses, uses-a-byte}
+use Rattle.decoding.proofs.Runs.{next-closed, next-runs, next-short}
 use Rattle.stream_meaning.specs.Stream.{Message}
 use Rattle.laws.specs.Walk.{Fed, Stand, Teller, answered, before, call, called, fed, goesOn, leaving, silent, walk}
 

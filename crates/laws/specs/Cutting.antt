@@ -5,9 +5,9 @@ use mathlib.Core.List.{List, [], _∷_, _++_, map}
 use mathlib.Core.Logic.{_≢_}
 use mathlib.Core.Path.{_≡_}
 use lib.ListN.{length, replicate, take, drop}
-use Rattle.deserializer.specs.declared.ChunkDeserializer.{ChunkDeserializer}
-use Rattle.deserializer.specs.Answer.{Listed, message, more, refused, used}
-use Rattle.deserializer.specs.Call.{next}
+use Rattle.decoding.specs.Decoder.{Decoder}
+use Rattle.decoding.specs.Answer.{Listed, message, more, refused, used}
+use Rattle.decoding.specs.Call.{next}
 use Rattle.laws.specs.Walk.{Fed, Stand, Teller, before, call, fed}
 
 -- what a receiver does: bytes arrive behind those still unread, and a call offers the first n of them
@@ -100,5 +100,5 @@ module _ (S : Type 0) where
     pub short-buffer : (t : Teller S) (s : Stand S) (moves : List Move) (unread : List ℕ) → length (s .buffer) < s .decoder .room
         → feed t moves s unread ≡ fed [] s (unread ++ arrived moves)
     -- a call in between that is lent another buffer, which is short, uses nothing and changes nothing
-    pub short-in-between : (d : ChunkDeserializer) (piece other : List ℕ) → length other < d .room
+    pub short-in-between : (d : Decoder) (piece other : List ℕ) → length other < d .room
         → (used (next d piece other .answer) ≡ 0) × (next d piece other .deserializer ≡ d) × (next d piece other .payload ≡ other)

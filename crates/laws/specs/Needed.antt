@@ -4,7 +4,7 @@ use mathlib.Core.List.{List, [], _∷_, _++_}
 use mathlib.Core.Option.{Option, none, some}
 use mathlib.Core.Path.{_≡_}
 use lib.ListN.{replicate}
-use Rattle.deserializer.specs.Told.{made, told}
+use Rattle.decoding.specs.Told.{made, told}
 use Rattle.stream_meaning.specs.Stream.{Message}
 use Rattle.laws.specs.Walk.{Fed, Stand, Teller, call, walk}
 

@@ -3,10 +3,10 @@ use Prim.Native.Nat.{ℕ}
 use mathlib.Core.List.{List, [], _∷_, _++_}
 use mathlib.Core.Option.{Option, none, some}
 use lib.ListN.{take, drop}
-use Rattle.deserializer.specs.declared.ChunkDeserializer.{ChunkDeserializer}
-use Rattle.deserializer.specs.Answer.{Listed, message, more, refused, used}
-use Rattle.deserializer.specs.Call.{Outcome, next}
-use Rattle.deserializer.specs.Told.{Outcome as Told, Size, outcome as telling, taken, told}
+use Rattle.decoding.specs.Decoder.{Decoder}
+use Rattle.decoding.specs.Answer.{Listed, message, more, refused, used}
+use Rattle.decoding.specs.Call.{Outcome, next}
+use Rattle.decoding.specs.Told.{Outcome as Told, Size, outcome as telling, taken, told}
 use Rattle.stream_meaning.specs.Stream.{Message}
 
 -- whatever tells the sizes: it is asked after each message, by what it has seen, and hears what the decoder answers
@@ -16,7 +16,7 @@ pub record Teller (S : Type 0) : Type 0 where
 
 -- any decoder, the payload buffer lent to each of its calls, and what the teller has seen
 pub record Stand (S : Type 0) : Type 0 where
-  pub decoder : ChunkDeserializer
+  pub decoder : Decoder
   pub buffer : List ℕ
   pub seen : S
 
@@ -29,7 +29,7 @@ pub record Fed (S : Type 0) : Type 0 where
 abbrev pub fed : {S : Type 0} → List Message → Stand S → (unread : List ℕ) → Fed S
 fed messages stand unread = record { messages = messages; stand = stand; unread = unread }
 
-abbrev pub tells : Option ℕ → ChunkDeserializer → Told
+abbrev pub tells : Option ℕ → Decoder → Told
 tells none d = telling taken d
 tells (some size) d = told d size
 

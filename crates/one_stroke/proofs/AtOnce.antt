@@ -14,23 +14,19 @@ use Rattle.chunk_header.specs.declared.ChunkHeaderFormat.{ChunkHeaderFormat}
 use Rattle.chunk_header.specs.declared.ChunkHeaderFormat.the-variants.{Full, TimeDeltaWithoutMessageStreamId, TimeDeltaOnly, Empty}
 use Rattle.chunk_header.specs.Limits.{maxField}
 use Rattle.chunk_header.specs.Table.{headerLength, typeOf}
-use Rattle.chunk_meaning.specs.declared.Row.{Row}
+use Rattle.chunk_meaning.specs.Stored.{Row}
 use Rattle.chunk_meaning.specs.Meaning.{basicRefusal, firstRefusal, firstTime}
-use Rattle.byte_machine.specs.declared.reader.Reader.{Reader}
-use Rattle.byte_machine.specs.declared.reader.Stage.the-variants.{Csid, MessagePayload}
-use Rattle.byte_machine.specs.declared.reader.Stepped.{Stepped}
+use Rattle.byte_machine.specs.Reader.{Reader, Csid, MessagePayload, Stepped, current, ended, go, reader, unfinished}
 use Rattle.byte_machine.specs.Header.{opens}
 use Rattle.byte_machine.specs.Payload.{landed, paid}
-use Rattle.byte_machine.specs.Reader.{current, ended, go, reader, unfinished}
 use Rattle.byte_machine.specs.Rows.{putAt, rowAt, rowOrEmpty}
 use Rattle.byte_machine.proofs.RowLaws.{in-table}
-use Rattle.deserializer.specs.Call.{after, next, outcome, read, run}
-use Rattle.deserializer.specs.Chunk.{carried}
-use Rattle.deserializer.specs.Head.{Known, headerIn, settledBy}
-use Rattle.deserializer.specs.declared.ChunkDeserializer.{ChunkDeserializer}
-use Rattle.deserializer.specs.declared.call.Core.{Core}
-use Rattle.deserializer.proofs.Heading.{known-runs}
-use Rattle.deserializer.proofs.Runs.{bulk, holding, next-runs, then}
+use Rattle.decoding.specs.Call.{after, next, outcome, read, run}
+use Rattle.decoding.specs.Chunk.{carried}
+use Rattle.decoding.specs.Head.{Known, headerIn, settledBy}
+use Rattle.decoding.specs.Decoder.{Decoder}
+use Rattle.decoding.proofs.Heading.{known-runs}
+use Rattle.decoding.proofs.Runs.{bulk, holding, next-runs, then}
 use Rattle.header_in_place.specs.declared.numbers.HeldRow.{HeldRow}
 use Rattle.header_in_place.specs.Numbers.{decode, encode, formatFrom, heldIn, heldRow, heldRowOf, numbersOf, readerFrom, rowFrom}
 use Rattle.header_in_place.proofs.Keeping.{from-again}
@@ -93,11 +89,8 @@ not-first TimeDeltaOnly h number room p q = rw (ne-eqb (h .«timestamp_field») 
 not-first Empty h number room p q = rw (ne-eqb (h .«timestamp_field») maxField p, le-ltb room (h .«message_length») q)
 
 module _ (held rows input payload : List ℕ) (bytes : Bytes input) (b : Between held (length input) (length payload)) (s : Seen) (w : Whole s held rows input) where
-  abbrev d : ChunkDeserializer
+  abbrev d : Decoder
   d = decode held rows
-
-  abbrev core : Core
-  core = record { room = getD held 0 0; «max_chunk_size» = getD held 1 0; closed = getD held 2 0; reader = readerFrom (heldIn held) }
 
   abbrev f : ChunkHeaderFormat
   f = formatAt input
@@ -113,7 +106,7 @@ module _ (held rows input payload : List ℕ) (bytes : Bytes input) (b : Between
   sent = take long (drop start input)
 
   -- the decoder after it
-  abbrev pub finished : ChunkDeserializer
+  abbrev pub finished : Decoder
   finished = record {
     room = getD held 0 0;
     «max_chunk_size» = getD held 1 0;
@@ -125,7 +118,7 @@ module _ (held rows input payload : List ℕ) (bytes : Bytes input) (b : Between
   outside : eqb (getD held 9 0) 0 ≡ true
   outside = eq-eqb (getD held 9 0) 0 (b .message)
 
-  known : Known core rows input f (placeAt rows input)
+  known : Known d input f (placeAt rows input)
   known = record {
     stage = is-csid (getD held 3 0) (getD held 4 0) (getD held 5 0) (b .stage);
     bytes = bytes;
@@ -160,7 +153,7 @@ module _ (held rows input payload : List ℕ) (bytes : Bytes input) (b : Between
   head-runs : run input d payload 0 ≡ run (drop start input) (holding d opened) payload start
   head-runs =
       let from-none : 0 + start ≡ start = omega arith in
-      known-runs core rows input f (placeAt rows input) known (rowOn rows input) (headerAt rows input) refl refl (w .fits .plain)
+      known-runs d input f (placeAt rows input) known (rowOn rows input) (headerAt rows input) refl refl (w .fits .plain)
       (rw outside (not-basic f (eqb (getD held 9 0) (rowOn rows input .id))))
       (rw outside (not-first f (headerAt rows input) (headerAt rows input .«timestamp_field») (getD held 0 0) (w .fits .plain) (w .fits .in-room)))
       payload

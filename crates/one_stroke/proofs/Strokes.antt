@@ -5,16 +5,16 @@ use mathlib.Core.List.{List}
 use lib.ListN.{length}
 use Rattle.fields.specs.Output.{stored}
 use Rattle.byte_machine.specs.Payload.{paid}
-use Rattle.deserializer.specs.Answer.{Listed, more}
-use Rattle.deserializer.specs.Call.{Outcome, next, outcome}
-use Rattle.deserializer.specs.Within.{Lies, nearer}
-use Rattle.deserializer.specs.declared.ChunkDeserializer.{ChunkDeserializer}
-use Rattle.deserializer.proofs.PieceWithin.{next-within}
+use Rattle.decoding.specs.Answer.{Listed, more}
+use Rattle.decoding.specs.Call.{Outcome, next, outcome}
+use Rattle.decoding.specs.Within.{Lies, nearer}
+use Rattle.decoding.specs.Decoder.{Decoder}
+use Rattle.decoding.proofs.PieceWithin.{next-within}
 use Rattle.header_in_place.specs.Numbers.{decode, encode, heldIn, heldOf, numbersOf, readerFrom}
 use Rattle.one_stroke.specs.Lent.{Lent}
 
 -- an outcome, and what stands for it
-pub stroke : (o : Outcome) (answer : Listed) (d : ChunkDeserializer) (held rows payload : List ℕ) → o ≡ outcome answer d payload → held ≡ encode d → rows ≡ d .rows
+pub stroke : (o : Outcome) (answer : Listed) (d : Decoder) (held rows payload : List ℕ) → o ≡ outcome answer d payload → held ≡ encode d → rows ≡ d .rows
     → Lent answer held rows payload o
 stroke o answer d held rows payload e k t = record {
   answer-is = sym (ap (λ (x : Outcome). x .answer) e);

@@ -2,8 +2,8 @@
 use Prim.Native.Nat.{ℕ}
 use mathlib.Core.List.{List}
 use mathlib.Core.Path.{_≡_}
-use Rattle.deserializer.specs.Answer.{Listed}
-use Rattle.deserializer.specs.Call.{Outcome}
+use Rattle.decoding.specs.Answer.{Listed}
+use Rattle.decoding.specs.Call.{Outcome}
 use Rattle.header_in_place.specs.Numbers.{encode}
 
 pub record Lent (answer : Listed) (held rows payload : List ℕ) (o : Outcome) : Type 0 where

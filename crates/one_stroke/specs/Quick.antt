@@ -8,15 +8,14 @@ use lib.ListN.{getD, length}
 use Rattle.chunk_header.specs.declared.ChunkHeaderFormat.{ChunkHeaderFormat}
 use Rattle.chunk_header.specs.Limits.{maxField}
 use Rattle.chunk_header.specs.Table.{formatOf, headerLength, typeOf}
-use Rattle.chunk_meaning.specs.declared.Row.{Row}
+use Rattle.chunk_meaning.specs.Stored.{Row, timed}
 use Rattle.chunk_meaning.specs.Meaning.{firstTime}
-use Rattle.chunk_meaning.specs.Stored.{timed}
 use Rattle.byte_machine.specs.Rows.{find, rowAt, rowCount}
-use Rattle.deserializer.specs.Answer.{more}
-use Rattle.deserializer.specs.Call.{next, read}
-use Rattle.deserializer.specs.Chunk.{carried}
-use Rattle.deserializer.specs.Head.{headerIn}
-use Rattle.deserializer.specs.Within.{Lies}
+use Rattle.decoding.specs.Answer.{more}
+use Rattle.decoding.specs.Call.{next, read}
+use Rattle.decoding.specs.Chunk.{carried}
+use Rattle.decoding.specs.Head.{headerIn}
+use Rattle.decoding.specs.Within.{Lies}
 use Rattle.header_in_place.specs.declared.numbers.HeldRow.{HeldRow}
 use Rattle.header_in_place.specs.Numbers.{decode, heldIn, heldRow, heldRowOf, readerFrom}
 use Rattle.one_stroke.specs.declared.message.Seen.{Seen}

@@ -5,7 +5,7 @@ ghost use Rattle.fields.specs.Output.{stored};
 ghost use Rattle.byte_machine.specs.Payload.{paid};
 ghost use Rattle.header_in_place.specs.Numbers.{heldOf, readerFrom};
 ghost use Rattle.one_stroke.specs.Quick.{Outside, Piece};
-use byte_machine::wide;
+use header_in_place::wide;
 use fields::put_bytes;
 use header_in_place::Held;
 use header_in_place::held_in;

@@ -8,7 +8,7 @@ use lib.ListN.{length, take, drop}
 use Rattle.serializer.specs.declared.ChunkSerializer.{ChunkSerializer}
 use Rattle.serializer.specs.Answer.{Answer as Written, wrote, refused as not-written}
 use Rattle.serializer.specs.Remembered.{fresh}
-use Rattle.deserializer.specs.Told.{maxRoom}
+use Rattle.decoding.specs.Told.{maxRoom}
 use Rattle.drop_plan.specs.Answer.{accepted}
 use Rattle.drop_plan.specs.Check.{among, judged}
 use Rattle.drop_plan.specs.Queue.{Queue, lengthAt, queue}

@@ -9,8 +9,7 @@ use lib.Dec.{eqb, ltb}
 use lib.ListN.{drop, length}
 use borrow.Author.Tests.{eqb-false, eqb-true}
 use Rattle.fields.specs.Output.{over}
-use Rattle.fields.specs.Writing.{Outcome, lacks, outcome, refuse, writing, wrote}
-use Rattle.fields.specs.Writing.{refused as not-written}
+use Rattle.fields.specs.Writing.{Outcome, lacks, outcome, refuse, writing, wrote, refused as not-written}
 use Rattle.user_control.specs.declared.UserControlEvent.{UserControlEvent}
 use Rattle.user_control.specs.Answer.{Answer, event, refused}
 use Rattle.user_control.specs.Body.{body}

@@ -13,13 +13,13 @@ use borrow.Author.Tests.{ltb-false, ltb-true}
 use Rattle.fields.specs.Endian.{Bytes}
 use Rattle.fields.proofs.Lists.{bytes-take}
 use Rattle.chunk_header.specs.Layout.{Chunk}
-use Rattle.deserializer.specs.declared.ChunkDeserializer.{ChunkDeserializer}
-use Rattle.deserializer.specs.Answer.{more, refused}
-use Rattle.deserializer.specs.Call.{Outcome, next, run}
-use Rattle.deserializer.proofs.Covers.{bytes-append}
-use Rattle.deserializer.proofs.Cut.{feed-answered, feed-append, has-run, refused-not-more, run-kept, shift}
-use Rattle.deserializer.proofs.Progress.{run-uses}
-use Rattle.deserializer.proofs.Runs.{next-runs, next-short}
+use Rattle.decoding.specs.Decoder.{Decoder}
+use Rattle.decoding.specs.Answer.{more, refused}
+use Rattle.decoding.specs.Call.{Outcome, next, run}
+use Rattle.decoding.proofs.Covers.{bytes-append}
+use Rattle.decoding.proofs.Cut.{feed-answered, feed-append, has-run, refused-not-more, run-kept, shift}
+use Rattle.decoding.proofs.Progress.{run-uses}
+use Rattle.decoding.proofs.Runs.{next-runs, next-short}
 use Rattle.stream_meaning.specs.Connection.{AllFit, Item, streams}
 use Rattle.stream_meaning.specs.Feeding.{Sign, byte, signs, signsOf}
 use Rattle.stream_meaning.specs.Stream.{HeadFits}
@@ -34,13 +34,13 @@ use Rattle.refusal_table.proofs.Opened.{Stands, amid-of, calls-same, on
 use Rattle.refusal_table.proofs.Settling.{At, Settles, numbers}
 
 -- a call of an open decoder with a long enough buffer
-module _ {came : List Sign} {d : ChunkDeserializer} (o : Open came d) (input payload : List ℕ) (are-bytes : Bytes input) where
+module _ {came : List Sign} {d : Decoder} (o : Open came d) (input payload : List ℕ) (are-bytes : Bytes input) where
   is-open : d .closed ≡ 0
   is-open = open-amid (amid-of (stands-of o)) .0
 
   -- after some bytes that want more
   module _ (m : ℕ) (inside : m < length input) (before : next d (take m input) payload .answer ≡ more m) where
-    abbrev d₁ : ChunkDeserializer
+    abbrev d₁ : Decoder
     d₁ = next d (take m input) payload .deserializer
 
     abbrev payload₁ : List ℕ
@@ -239,9 +239,9 @@ call-at part k Holds nz n7 s came d o input payload b n =
     }
 
 -- any other number than 7 is one of six, and closes
-pub call-refused : (came : List Sign) (d : ChunkDeserializer) → Open came d → (input payload : List ℕ) → Bytes input → (k n : ℕ)
+pub call-refused : (came : List Sign) (d : Decoder) → Open came d → (input payload : List ℕ) → Bytes input → (k n : ℕ)
     → next d input payload .answer ≡ refused k n
     → (k ≡ 7) ⊎ (OneOf k (9 ∷ 10 ∷ 11 ∷ 12 ∷ 13 ∷ 14 ∷ []) × (next d input payload .deserializer .closed ≡ k))
 call-refused came d o input payload b k n h =
-    ⊎-elim (λ s. inl (s .0)) (λ l. inr (one-of-them o input payload b l k n h, ap (λ (d : ChunkDeserializer). d .closed) (closed o input payload b l k n h .closes)))
+    ⊎-elim (λ s. inl (s .0)) (λ l. inr (one-of-them o input payload b l k n h, ap (λ (d : Decoder). d .closed) (closed o input payload b l k n h .closes)))
     (seven-or-long o input payload b k n h)

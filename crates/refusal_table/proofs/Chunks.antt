@@ -11,12 +11,12 @@ use Rattle.fields.proofs.Tests.{Decides, both, both-then, clash, equal, in-word
 use Rattle.chunk_header.specs.Layout.{Chunk, Header, type0, type1, type2, type3, Extended, absent, present, format}
 use Rattle.chunk_header.specs.Limits.{maxField}
 use Rattle.chunk_header.specs.Table.{isEmpty, isFull}
-use Rattle.chunk_meaning.specs.declared.Row.{Row}
+use Rattle.chunk_meaning.specs.Stored.{Row}
 use Rattle.chunk_meaning.specs.Meaning.{basicRefusal, firstRefusal, laterRefusal, repeats}
 use Rattle.byte_machine.specs.Rows.{find, free}
-use Rattle.deserializer.specs.declared.ChunkDeserializer.{ChunkDeserializer}
-use Rattle.deserializer.specs.Chunk.{ExtendedFits, basicRefused, carried, formatFor, header, headerRefused, inside, row, says}
-use Rattle.deserializer.proofs.Taken.{id-some}
+use Rattle.decoding.specs.Decoder.{Decoder}
+use Rattle.decoding.specs.Chunk.{ExtendedFits, basicRefused, carried, formatFor, header, headerRefused, inside, row, says}
+use Rattle.decoding.proofs.Taken.{id-some}
 use Rattle.stream_meaning.specs.Connection.{streams}
 use Rattle.stream_meaning.specs.Feeding.{Sign}
 use Rattle.stream_meaning.specs.Said.{saidOn}
@@ -49,7 +49,7 @@ type-1-2 (type2 delta) = listed 2 (1 ∷ 2 ∷ [])
 type-1-2 type3 = listed 3 (1 ∷ 2 ∷ [])
 
 -- a chunk that can come to a decoder between chunks
-module _ {came : List Sign} {messages : List Message} {d : ChunkDeserializer} {buffer : List ℕ} (w : Whole came messages d buffer) (c : Chunk)
+module _ {came : List Sign} {messages : List Message} {d : Decoder} {buffer : List ℕ} (w : Whole came messages d buffer) (c : Chunk)
     (fits : HeadFits (streams (w .items) (c .id)) c) where
   n : c .id ≢ 0
   n = id-some (c .form) (c .id) (fits .form)
@@ -115,7 +115,7 @@ nothing : {P : Type 0} {t : Bool} {n : ℕ} → n ≢ 0 → Decides t P → cond
 nothing {t = true} z p = (λ e. absurd (z e), λ n. absurd (n (p .yes refl)))
 nothing {t = false} z p = (λ e. p .no refl, λ n. refl)
 
-module _ {came : List Sign} {messages : List Message} {d : ChunkDeserializer} {buffer : List ℕ} (w : Whole came messages d buffer) (c : Chunk)
+module _ {came : List Sign} {messages : List Message} {d : Decoder} {buffer : List ℕ} (w : Whole came messages d buffer) (c : Chunk)
     (fits : HeadFits (streams (w .items) (c .id)) c) where
   from-12 : Among Is (λ a. Unit {0}) (12 ∷ 0 ∷ []) (cond (test-12 w c fits) 12 0)
   from-12 = then-one (test-12 w c fits) (gives 12) (passed 0)
@@ -170,7 +170,7 @@ below absent r fits = rw (ne-eqb (r .«timestamp_field») maxField fits) (record
 below (present time) r fits = rw (eq-eqb (r .«timestamp_field») maxField (fits .0)) (less time maxField)
 
 -- the end of the header, of a chunk that its basic header does not refuse
-module _ {came : List Sign} {messages : List Message} {d : ChunkDeserializer} {buffer : List ℕ} (w : Whole came messages d buffer) (c : Chunk)
+module _ {came : List Sign} {messages : List Message} {d : Decoder} {buffer : List ℕ} (w : Whole came messages d buffer) (c : Chunk)
     (fits : HeadFits (streams (w .items) (c .id)) c) (passes : basicRefused d c ≡ 0) where
   abbrev none-before : ¬ (nine (w .items) c ⊎ ten (w .items) c ⊎ eleven (w .items) c)
   none-before = basic-0 w c fits .0 passes .1

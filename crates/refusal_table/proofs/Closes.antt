@@ -6,24 +6,21 @@ use mathlib.Core.Path.{_≡_, refl, sym, ap, _∙_}
 use native.Mathlib.Nat.{add-zero}
 use native.Mathlib.Omega.{arith}
 use lib.ListN.{set, take}
-use Rattle.deserializer.specs.declared.ChunkDeserializer.{ChunkDeserializer}
-use Rattle.byte_machine.specs.declared.reader.Event.{Event}
-use Rattle.byte_machine.specs.declared.reader.Event.the-variants.{Go, Chunk, Message, Refuse}
-use Rattle.byte_machine.specs.declared.reader.Stepped.{Stepped}
-use Rattle.deserializer.specs.Answer.{more, refused}
-use Rattle.deserializer.specs.Call.{Outcome, after, end, outcome, run, stepOf, writes}
+use Rattle.decoding.specs.Decoder.{Decoder}
+use Rattle.byte_machine.specs.Reader.{Event, Go, Chunk, Message, Refuse, Stepped, inPayload, refuse}
+use Rattle.decoding.specs.Answer.{more, refused}
+use Rattle.decoding.specs.Call.{Outcome, after, end, outcome, run, stepOf, writes}
 use Rattle.byte_machine.specs.Payload.{landed, pays}
 use Rattle.byte_machine.specs.Step.{stepped}
-use Rattle.byte_machine.specs.Reader.{inPayload, refuse}
-use Rattle.deserializer.proofs.Closing.{refusal-only-closes}
-use Rattle.deserializer.proofs.Cut.{refused-not-more}
-use Rattle.deserializer.proofs.Runs.{landed-not-refused}
+use Rattle.decoding.proofs.Closing.{refusal-only-closes}
+use Rattle.decoding.proofs.Cut.{refused-not-more}
+use Rattle.decoding.proofs.Runs.{landed-not-refused}
 use Rattle.fields.proofs.Tests.{clash}
 use Rattle.refusal_table.specs.History.{closedWith}
-use Rattle.deserializer.proofs.Standing.{refused-not-message}
+use Rattle.decoding.proofs.Standing.{refused-not-message}
 
 -- payload is not refused, and no other byte is stored
-refused-stores-nothing : (d : ChunkDeserializer) (payload : List ℕ) (x k : ℕ) → stepOf d x .event ≡ Refuse k → writes d payload x ≡ payload
+refused-stores-nothing : (d : Decoder) (payload : List ℕ) (x k : ℕ) → stepOf d x .event ≡ Refuse k → writes d payload x ≡ payload
 unfolding stepOf writes
 refused-stores-nothing d payload x k =
     by-cases (inPayload (d .reader .stage)) (pays (d .room) (d .reader)) (stepped (d .reader .stage) (d .room) (d .«max_chunk_size») (d .rows) (d .reader) x)
@@ -38,7 +35,7 @@ refused-stores-nothing d payload x k =
 abbrev closedAs : ℕ → ℕ → Outcome → Outcome
 closedAs k m o = outcome (refused k m) (closedWith k (o .deserializer)) (o .payload)
 
-pub record ClosedAt (a : List ℕ) (d : ChunkDeserializer) (payload : List ℕ) (n k m : ℕ) : Type 0 where
+pub record ClosedAt (a : List ℕ) (d : Decoder) (payload : List ℕ) (n k m : ℕ) : Type 0 where
   pub others : ℕ
   pub used : m ≡ n + suc others
   pub wants : run (take others a) d payload n .answer ≡ more (n + others)
@@ -46,8 +43,8 @@ pub record ClosedAt (a : List ℕ) (d : ChunkDeserializer) (payload : List ℕ) 
   pub closes : run a d payload n ≡ closedAs k m (run (take others a) d payload n)
 
 -- by the first byte's event
-module _ (x : ℕ) (a : List ℕ) (d : ChunkDeserializer) (payload : List ℕ) (n k m : ℕ) where
-  abbrev d′ : ChunkDeserializer
+module _ (x : ℕ) (a : List ℕ) (d : Decoder) (payload : List ℕ) (n k m : ℕ) where
+  abbrev d′ : Decoder
   d′ = after d (stepOf d x)
 
   abbrev payload′ : List ℕ
@@ -84,7 +81,7 @@ module _ (x : ℕ) (a : List ℕ) (d : ChunkDeserializer) (payload : List ℕ) (
         closes = at-once a ∙ (rw (refusal-only-closes d x j is, refused-stores-nothing d payload x j is, ek, em));
       }
 
-pub closed-at : (a : List ℕ) (d : ChunkDeserializer) (payload : List ℕ) (n k m : ℕ) → run a d payload n .answer ≡ refused k m → ClosedAt a d payload n k m
+pub closed-at : (a : List ℕ) (d : Decoder) (payload : List ℕ) (n k m : ℕ) → run a d payload n .answer ≡ refused k m → ClosedAt a d payload n k m
 unfolding run
 closed-at [] d payload n k m h = refused-not-more (sym h)
 closed-at (x ∷ a) d payload n k m h =

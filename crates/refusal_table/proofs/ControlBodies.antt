@@ -8,8 +8,7 @@ use native.Mathlib.Omega.{arith}
 use lib.ListN.{length}
 use Rattle.chunk_header.specs.Limits.{maxSize}
 use Rattle.fields.specs.Output.{over}
-use Rattle.fields.specs.Writing.{lacks, outcome, writing, wrote}
-use Rattle.fields.specs.Writing.{refused as not-written}
+use Rattle.fields.specs.Writing.{lacks, outcome, writing, wrote, refused as not-written}
 use Rattle.fields.proofs.Tests.{Decides, clash, equal, less, one-of}
 use Rattle.protocol_control.specs.declared.Kind.{Kind}
 use Rattle.protocol_control.specs.declared.Kind.the-variants.{

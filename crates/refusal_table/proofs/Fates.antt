@@ -9,21 +9,21 @@ use lib.Dec.{eqb}
 use lib.ListN.{length, length-append}
 use borrow.Author.Tests.{eqb-true, eqb-false}
 use Rattle.chunk_header.specs.Layout.{Chunk, chunkBytes, extendedBytes, headerBytes}
-use Rattle.deserializer.specs.declared.ChunkDeserializer.{ChunkDeserializer}
-use Rattle.byte_machine.specs.declared.reader.Stage.the-variants.{Csid}
-use Rattle.deserializer.specs.Answer.{refused}
-use Rattle.deserializer.specs.Call.{Outcome, run}
-use Rattle.deserializer.specs.Chunk.{ChunkFits, HeadFits, basicRefused, headerRefused}
-use Rattle.deserializer.proofs.Accepts.{refuses-basic, refuses-header}
-use Rattle.deserializer.proofs.Cut.{refused-not-more}
-use Rattle.deserializer.proofs.Reached.{Reached}
-use Rattle.deserializer.proofs.Standing.{refused-not-message}
-use Rattle.deserializer.proofs.Taken.{Takes, goes, goes-on, hands-out, parts}
+use Rattle.decoding.specs.Decoder.{Decoder}
+use Rattle.byte_machine.specs.Reader.{Csid}
+use Rattle.decoding.specs.Answer.{refused}
+use Rattle.decoding.specs.Call.{Outcome, run}
+use Rattle.decoding.specs.Chunk.{ChunkFits, HeadFits, basicRefused, headerRefused}
+use Rattle.decoding.proofs.Accepts.{refuses-basic, refuses-header}
+use Rattle.decoding.proofs.Cut.{refused-not-more}
+use Rattle.decoding.proofs.Reached.{Reached}
+use Rattle.decoding.proofs.Standing.{refused-not-message}
+use Rattle.decoding.proofs.Taken.{Takes, goes, goes-on, hands-out, parts}
 use Rattle.refusal_table.specs.Conditions.{basic, head}
 use Rattle.refusal_table.proofs.Settling.{At, by-basic, by-head}
 
 -- a chunk that is refused is answered at the end of that part of it
-pub refused-at : {d : ChunkDeserializer} {c : Chunk} {k : ℕ} {p : List ℕ} → Reached d → d .reader .stage ≡ Csid → HeadFits d c → k ≢ 0 → At d c k p
+pub refused-at : {d : Decoder} {c : Chunk} {k : ℕ} {p : List ℕ} → Reached d → d .reader .stage ≡ Csid → HeadFits d c → k ≢ 0 → At d c k p
     → (payload : List ℕ) (n : ℕ) (rest : List ℕ)
     → run (p ++ rest) d payload n .answer ≡ refused k (n + length p)
 refused-at {d} {c} reached s fits nz (by-basic e) payload n rest =
@@ -39,12 +39,12 @@ refused-at {d} {c} {k} reached s fits nz (by-head z e) payload n rest =
 pub head-first : (c : Chunk) → chunkBytes c ≡ head c ++ c .payload
 head-first c = parts c ∙ simp append-assoc
 
-pub data Fate (d : ChunkDeserializer) (c : Chunk) : Type 0 where
+pub data Fate (d : Decoder) (c : Chunk) : Type 0 where
   is-refused : (k : ℕ) (p r : List ℕ) → k ≢ 0 → At d c k p → chunkBytes c ≡ p ++ r → Fate d c
   is-taken : Takes d c → Fate d c
 
 -- a chunk that is taken is not refused
-pub not-refused : {d : ChunkDeserializer} {c : Chunk} → Takes d c → (payload : List ℕ) (n k m : ℕ) → run (chunkBytes c ++ []) d payload n .answer ≢ refused k m
+pub not-refused : {d : Decoder} {c : Chunk} → Takes d c → (payload : List ℕ) (n k m : ℕ) → run (chunkBytes c ++ []) d payload n .answer ≢ refused k m
 unfolding run
 not-refused {d} {c} t payload n k m e = by-rest (goes d c) refl
   where
@@ -52,7 +52,7 @@ not-refused {d} {c} t payload n k m e = by-rest (goes d c) refl
     by-rest true q = refused-not-more (sym e ∙ ap (λ (o : Outcome). o .answer) (goes-on t q payload n []))
     by-rest false q = refused-not-message (sym e ∙ ap (λ (o : Outcome). o .answer) (hands-out t q payload n []))
 
-pub fate : (d : ChunkDeserializer) (c : Chunk) → Reached d → d .reader .stage ≡ Csid → ChunkFits d c → Fate d c
+pub fate : (d : Decoder) (c : Chunk) → Reached d → d .reader .stage ≡ Csid → ChunkFits d c → Fate d c
 fate d c reached stage fits = by-tests (eqb (basicRefused d c) 0) (eqb (headerRefused d c) 0) refl refl
   where
     by-tests : (t u : Bool) → eqb (basicRefused d c) 0 ≡ t → eqb (headerRefused d c) 0 ≡ u → Fate d c

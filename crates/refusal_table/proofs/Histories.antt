@@ -6,12 +6,12 @@ use mathlib.Core.Path.{_≡_, refl, ap, subst, _∙_}
 use native.Mathlib.Omega.{arith}
 use Rattle.fields.specs.Endian.{Bytes}
 use Rattle.chunk_header.specs.Layout.{Header, type0, type1, type2, type3, format}
-use Rattle.deserializer.specs.declared.ChunkDeserializer.{ChunkDeserializer}
-use Rattle.deserializer.specs.Answer.{Listed, message, more, refused}
-use Rattle.deserializer.specs.Call.{next}
-use Rattle.deserializer.specs.Told.{Outcome as Told, made, told}
-use Rattle.deserializer.proofs.Entries.{made-by, told-by}
-use Rattle.deserializer.proofs.Runs.{next-closed}
+use Rattle.decoding.specs.Decoder.{Decoder}
+use Rattle.decoding.specs.Answer.{Listed, message, more, refused}
+use Rattle.decoding.specs.Call.{next}
+use Rattle.decoding.specs.Told.{Outcome as Told, made, told}
+use Rattle.decoding.proofs.Entries.{made-by, told-by}
+use Rattle.decoding.proofs.Runs.{next-closed}
 use Rattle.stream_meaning.specs.Connection.{Item, streams}
 use Rattle.stream_meaning.specs.Feeding.{Sign}
 use Rattle.stream_meaning.specs.Said.{saidOn}
@@ -28,7 +28,7 @@ use Rattle.refusal_table.proofs.Sizes.{told-closed}
 abbrev closing : List ℕ
 closing = 6 ∷ 9 ∷ 10 ∷ 11 ∷ 12 ∷ 13 ∷ 14 ∷ []
 
-abbrev Either : ChunkDeserializer → Type 0
+abbrev Either : Decoder → Type 0
 Either d = ((came : List Sign) × Open came d) ⊎ OneOf (d .closed) closing
 
 not-0 : (k : ℕ) → OneOf k closing → k ≢ 0
@@ -41,7 +41,7 @@ made-either room =
     (λ good e. inl ([], rw e at (opened room (ap (λ (o : Told). o .answer) e)))) refl
 
 -- a call to an open one
-fed-either : (came : List Sign) (d : ChunkDeserializer) → Open came d → (input payload : List ℕ) → Bytes input → (l : Listed) → next d input payload .answer ≡ l
+fed-either : (came : List Sign) (d : Decoder) → Open came d → (input payload : List ℕ) → Bytes input → (l : Listed) → next d input payload .answer ≡ l
     → Either (next d input payload .deserializer)
 fed-either came d o input payload b (message type stream time long used) h = inl (_, handed o input payload b type stream time long used h)
 fed-either came d o input payload b (more used) h = inl (_, wanted o input payload b used h)
@@ -50,12 +50,12 @@ fed-either came d o input payload b (refused k n) h =
     (call-refused came d o input payload b k n h)
 
 -- a size told to an open one
-told-either : (came : List Sign) (d : ChunkDeserializer) → Open came d → (size : ℕ) → Either (told d size .deserializer)
+told-either : (came : List Sign) (d : Decoder) → Open came d → (size : ℕ) → Either (told d size .deserializer)
 told-either came d o size =
     told-by d size (λ (x : Told). told d size ≡ x → Either (x .deserializer)) (λ k e. inl (came, o))
     (λ c b e. inl (_, rw e at (resized o size (ap (λ (x : Told). x .answer) e)))) refl
 
-pub open-or-closed : (d : ChunkDeserializer) → Made d
+pub open-or-closed : (d : Decoder) → Made d
     → ((came : List Sign) × Open came d) ⊎ OneOf (d .closed) (6 ∷ 9 ∷ 10 ∷ 11 ∷ 12 ∷ 13 ∷ 14 ∷ [])
 open-or-closed d (new room) = made-either room
 open-or-closed d (fed {d = d₀} m input payload b) = by-cases (open-or-closed d₀ m)
@@ -70,7 +70,7 @@ open-or-closed d (sized {d = d₀} m size) = by-cases (open-or-closed d₀ m)
     by-cases (inr c) = inr (rw (told-closed d₀ (not-0 (d₀ .closed) c) size) c)
 
 -- the lengths that were said
-lengths : (came : List Sign) (d : ChunkDeserializer) → Open came d → (r : Read came) → (id : ℕ) → saidOn (streams (r .items) id) .length ≤ d .room
+lengths : (came : List Sign) (d : Decoder) → Open came d → (r : Read came) → (id : ℕ) → saidOn (streams (r .items) id) .length ≤ d .room
 lengths came d o r id =
     let s = stands-of o in
     let a = amid-of s in

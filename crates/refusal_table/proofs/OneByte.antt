@@ -9,16 +9,16 @@ use lib.Seq.{take-append-seam, take-at}
 use Rattle.fields.specs.Endian.{Bytes}
 use Rattle.chunk_header.specs.Layout.{Chunk, chunkBytes, format}
 use Rattle.chunk_header.specs.Limits.{initialSize}
-use Rattle.deserializer.specs.declared.ChunkDeserializer.{ChunkDeserializer}
-use Rattle.deserializer.specs.Answer.{Listed, message, more, refused}
-use Rattle.deserializer.specs.Call.{Outcome, next, outcome, run}
-use Rattle.deserializer.proofs.Covers.{Begins, Found, covers, part, whole}
-use Rattle.deserializer.proofs.Cut.{feed-append, refused-not-more, run-append, shift}
-use Rattle.deserializer.proofs.Reached.{made-reaches}
-use Rattle.deserializer.proofs.ReadsBack.{extendedOf, headOf}
-use Rattle.deserializer.proofs.Runs.{next-runs}
-use Rattle.deserializer.proofs.Standing.{refused-not-message}
-use Rattle.deserializer.proofs.Taken.{Takes, basic-some, id-some, parts}
+use Rattle.decoding.specs.Decoder.{Decoder}
+use Rattle.decoding.specs.Answer.{Listed, message, more, refused}
+use Rattle.decoding.specs.Call.{Outcome, next, outcome, run}
+use Rattle.decoding.proofs.Covers.{Begins, Found, covers, part, whole}
+use Rattle.decoding.proofs.Cut.{feed-append, refused-not-more, run-append, shift}
+use Rattle.decoding.proofs.Reached.{made-reaches}
+use Rattle.decoding.proofs.ReadsBack.{extendedOf, headOf}
+use Rattle.decoding.proofs.Runs.{next-runs}
+use Rattle.decoding.proofs.Standing.{refused-not-message}
+use Rattle.decoding.proofs.Taken.{Takes, basic-some, id-some, parts}
 use Rattle.stream_meaning.specs.Connection.{Item, quiet, sizeFrom, streams}
 use Rattle.stream_meaning.specs.Feeding.{BegunFrom, Sign, byte}
 use Rattle.stream_meaning.specs.Stream.{Fits, HeadFits, Message, Stream, earlier, saying}
@@ -59,7 +59,7 @@ some-last (x ∷ []) h = ([], (x, refl))
 some-last (x ∷ y ∷ l) h = let t = some-last (y ∷ l) (omega arith) in (x ∷ t .0, (t .1 .0, ap (λ (m : List ℕ). x ∷ m) (t .1 .1)))
 
 -- a decoder to which a part of a chunk has come, and one byte more
-module _ {came : List Sign} {messages : List Message} {d : ChunkDeserializer} {buffer : List ℕ} (a : Amid came messages d buffer) (x : ℕ) where
+module _ {came : List Sign} {messages : List Message} {d : Decoder} {buffer : List ℕ} (a : Amid came messages d buffer) (x : ℕ) where
   abbrev w : Whole (a .before) messages (a .decoder) (a .held)
   w = a .at-start
 

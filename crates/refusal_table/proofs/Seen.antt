@@ -12,8 +12,8 @@ use borrow.Author.Tests.{eq-eqb, ne-eqb}
 use Rattle.fields.proofs.Tests.{Decides, equal, in-words, less, not-decides}
 use Rattle.byte_machine.specs.Rows.{find, free, rowAt}
 use Rattle.byte_machine.proofs.Putting.{free-after, free-none}
-use Rattle.deserializer.specs.declared.ChunkDeserializer.{ChunkDeserializer}
-use Rattle.deserializer.proofs.Taken.{id-some}
+use Rattle.decoding.specs.Decoder.{Decoder}
+use Rattle.decoding.proofs.Taken.{id-some}
 use Rattle.stream_meaning.specs.Connection.{FitFrom, Item, chunk, opened, quiet, size, streams, streamsFrom, taken}
 use Rattle.stream_meaning.specs.Feeding.{Sign}
 use Rattle.stream_meaning.specs.Stream.{Message, Stream, takes}
@@ -30,7 +30,7 @@ silent-0 (chunk c ∷ items) now streams f =
     silent-0 items now (taken streams c) (f .1)
     ∙ ap (λ (t : Bool). cond t (takes (streams (c .id)) c) (streams 0)) (ne-eqb 0 (c .id) (λ e. id-some (c .form) (c .id) (f .0 .head .form) (sym e)))
 
-module _ {came : List Sign} {messages : List Message} {d : ChunkDeserializer} {buffer : List ℕ} (w : Whole came messages d buffer) where
+module _ {came : List Sign} {messages : List Message} {d : Decoder} {buffer : List ℕ} (w : Whole came messages d buffer) where
   -- a stream has a row where something is stored of it, and that is where a chunk of it has come
   row-stored : (id : ℕ) → id ≢ 0 → find (d .rows) id < 64 ↔ (streams (w .items) id .stored ≢ none)
   row-stored id n = by-row (ltb (find (d .rows) id) 64) (less (find (d .rows) id) 64) (ap (λ (s : Stream). s .stored) (sym (w .sees id n)))

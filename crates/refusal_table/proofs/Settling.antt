@@ -5,8 +5,8 @@ use mathlib.Core.Logic.{_↔_, _≢_, _⊎_, inl, inr, ⊎-elim}
 use mathlib.Core.Path.{_≡_, refl, sym}
 use native.Mathlib.Omega.{arith}
 use Rattle.chunk_header.specs.Layout.{Chunk, Header, type0, type1, type2, type3, format}
-use Rattle.deserializer.specs.declared.ChunkDeserializer.{ChunkDeserializer}
-use Rattle.deserializer.specs.Chunk.{basicRefused, headerRefused}
+use Rattle.decoding.specs.Decoder.{Decoder}
+use Rattle.decoding.specs.Chunk.{basicRefused, headerRefused}
 use Rattle.stream_meaning.specs.Connection.{Item, streams}
 use Rattle.stream_meaning.specs.Feeding.{Sign}
 use Rattle.stream_meaning.specs.Said.{saidOn}
@@ -18,20 +18,20 @@ use Rattle.refusal_table.proofs.Chunks.{basic-0, basic-9, basic-10, bas
 use Rattle.refusal_table.proofs.Deciding.{listed}
 
 -- a chunk is refused with a number at the end of a part of it
-pub data At (d : ChunkDeserializer) (c : Chunk) (k : ℕ) : List ℕ → Type 0 where
+pub data At (d : Decoder) (c : Chunk) (k : ℕ) : List ℕ → Type 0 where
   by-basic : basicRefused d c ≡ k → At d c k (basic c)
   by-head : basicRefused d c ≡ 0 → headerRefused d c ≡ k → At d c k (head c)
 
 -- a decoder between chunks, whatever has come to it
 pub record Between : Type 0 where
-  pub decoder : ChunkDeserializer
+  pub decoder : Decoder
   pub buffer : List ℕ
   pub came : List Sign
   pub messages : List Message
   pub whole : Whole came messages decoder buffer
 
 -- something of every chunk that can come to one
-abbrev Ever : (ChunkDeserializer → List Item → Chunk → Type 0) → Type 0
+abbrev Ever : (Decoder → List Item → Chunk → Type 0) → Type 0
 Ever P = (w : Between) (c : Chunk) → HeadFits (streams (w .whole .items) (c .id)) c → P (w .decoder) (w .whole .items) c
 
 -- it is refused exactly where something holds, and at the end of that part

@@ -7,16 +7,16 @@ use mathlib.Core.Path.{_≡_, refl, sym, ap, _∙_}
 use native.Mathlib.Omega.{arith}
 use lib.ListN.{length}
 use borrow.Author.Tests.{eq-eqb, ne-eqb}
-use Rattle.deserializer.specs.declared.ChunkDeserializer.{ChunkDeserializer}
-use Rattle.deserializer.specs.Told.{Outcome, between, fresh, made, outcome, refused, taken, told}
+use Rattle.decoding.specs.Decoder.{Decoder}
+use Rattle.decoding.specs.Told.{Outcome, between, fresh, made, outcome, refused, taken, told}
 use Rattle.chunk_header.specs.Limits.{maxSize}
 use Rattle.byte_machine.specs.Reader.{atStart}
-use Rattle.deserializer.specs.Call.{Outcome as Called, outcome as called, run}
-use Rattle.deserializer.specs.Answer.{more}
-use Rattle.deserializer.proofs.Entries.{made-by}
-use Rattle.deserializer.proofs.Reached.{made-reaches}
-use Rattle.deserializer.proofs.Runs.{next-runs}
-use Rattle.deserializer.proofs.Standing.{run-stood}
+use Rattle.decoding.specs.Call.{Outcome as Called, outcome as called, run}
+use Rattle.decoding.specs.Answer.{more}
+use Rattle.decoding.proofs.Entries.{made-by}
+use Rattle.decoding.proofs.Reached.{made-reaches}
+use Rattle.decoding.proofs.Runs.{next-runs}
+use Rattle.decoding.proofs.Standing.{run-stood}
 use Rattle.fields.proofs.Tests.{Decides, clash, equal, in-words, less}
 use Rattle.stream_meaning.specs.Feeding.{Sign}
 use Rattle.stream_meaning.specs.Stream.{Message}
@@ -44,7 +44,7 @@ pub new-no-other : (room k : ℕ) → made room .answer ≡ refused k → OneOf 
 new-no-other room k = made-by room (λ (o : Outcome). o .answer ≡ refused k → OneOf k (6 ∷ [])) (λ bad h. inl (cc)) (λ good h. absurd (was-taken k h))
 
 -- a size that is told to a closed decoder
-pub told-closed : (d : ChunkDeserializer) → d .closed ≢ 0 → (size : ℕ) → told d size ≡ outcome (refused (d .closed)) d
+pub told-closed : (d : Decoder) → d .closed ≢ 0 → (size : ℕ) → told d size ≡ outcome (refused (d .closed)) d
 unfolding told
 told-closed d n size = rw (ne-eqb (d .closed) 0 n)
 
@@ -52,14 +52,14 @@ told-closed d n size = rw (ne-eqb (d .closed) 0 n)
 abbrev pub Is : ℕ → Outcome → Type 0
 Is k o = o .answer ≡ refused k
 
-abbrev pub AsBefore : ChunkDeserializer → Outcome → Type 0
+abbrev pub AsBefore : Decoder → Outcome → Type 0
 AsBefore d o = o .deserializer ≡ d
 
-gives : (d : ChunkDeserializer) (n : ℕ) → Gives Is (AsBefore d) n (outcome (refused n) d)
+gives : (d : Decoder) (n : ℕ) → Gives Is (AsBefore d) n (outcome (refused n) d)
 gives d n = record { is = refl; only = λ m h. cc; left = refl }
 
 -- "after the first byte of a message and before its end"
-amid-eight : {came : List Sign} {messages : List Message} {d : ChunkDeserializer} {buffer : List ℕ} (a : Amid came messages d buffer)
+amid-eight : {came : List Sign} {messages : List Message} {d : Decoder} {buffer : List ℕ} (a : Amid came messages d buffer)
     → Decides (not (between (d .reader))) (eight (a .at-start .items) (a .part-of))
 unfolding run
 amid-eight {d = d} {buffer = buffer} a = by-part (a .part-of) runs
@@ -79,13 +79,13 @@ amid-eight {d = d} {buffer = buffer} a = by-part (a .part-of) runs
         in
         rw z (record { yes = λ q. inl (omega arith); no = λ q. clash q refl })
 
-read-eight : {came : List Sign} {d : ChunkDeserializer} (s : Stands came d) → Decides (not (between (d .reader))) ((r : Read came) × eight (r .items) (r .part))
+read-eight : {came : List Sign} {d : Decoder} (s : Stands came d) → Decides (not (between (d .reader))) ((r : Read came) × eight (r .items) (r .part))
 read-eight {came} s = in-words (λ h. (read-of s, h), from) (amid-eight (amid-of s))
   where
     from : (r : Read came) × eight (r .items) (r .part) → eight (amid-of s .at-start .items) (amid-of s .part-of)
     from h = let e = only-reading s (h .0) in rw (e .0, e .1) (h .1)
 
-pub told-rows : (came : List Sign) (d : ChunkDeserializer) → Open came d → (size : ℕ)
+pub told-rows : (came : List Sign) (d : Decoder) → Open came d → (size : ℕ)
     → Three Is (AsBefore d) 3 4 8 (told d size) (size ≡ 0) (2147483647 < size) ((r : Read came) × eight (r .items) (r .part))
 unfolding told
 told-rows came d o size =

@@ -1,7 +1,7 @@
 -- Document 01's table, in its order: each row is proved in the file of its entry point.
 use mathlib.Core.Logic.{inl, inr, ⊎-elim}
 use native.Mathlib.Omega.{arith}
-use Rattle.deserializer.proofs.Runs.{next-closed}
+use Rattle.decoding.proofs.Runs.{next-closed}
 use Rattle.refusal_table.specs.Table.{ClosedStays, NoOther, RefusalTable}
 use Rattle.refusal_table.proofs.Bodies.{body-15, body-16, body-no-other, write-5, write-no-other}
 use Rattle.refusal_table.proofs.Calls.{call-7, call-at, call-refused}

@@ -5,8 +5,7 @@ use mathlib.Core.Logic.{_↔_, _≢_, _⊎_}
 use mathlib.Core.Path.{_≡_}
 use lib.ListN.{length}
 use Rattle.fields.specs.Endian.{Bytes}
-use Rattle.fields.specs.Writing.{writing}
-use Rattle.fields.specs.Writing.{refused as not-written}
+use Rattle.fields.specs.Writing.{writing, refused as not-written}
 use Rattle.user_control.specs.declared.UserControlEvent.{UserControlEvent}
 use Rattle.user_control.specs.Answer.{refused as no-body}
 use Rattle.user_control.specs.Body.{body}
@@ -23,10 +22,10 @@ use Rattle.serializer.specs.Answer.{refused as no-packet}
 use Rattle.serializer.specs.Serialize.{Outcome as Encoded, needed, serialized, sizeBody, sizeChanged, sizeMessage}
 use Rattle.serializer.specs.Remembered.{packetOf}
 use Rattle.chunk_header.specs.Layout.{Chunk}
-use Rattle.deserializer.specs.declared.ChunkDeserializer.{ChunkDeserializer}
-use Rattle.deserializer.specs.Answer.{refused}
-use Rattle.deserializer.specs.Call.{next, outcome}
-use Rattle.deserializer.specs.Told.{fresh, made, outcome as telling, refused as no-size, told}
+use Rattle.decoding.specs.Decoder.{Decoder}
+use Rattle.decoding.specs.Answer.{refused}
+use Rattle.decoding.specs.Call.{next, outcome}
+use Rattle.decoding.specs.Told.{fresh, made, outcome as telling, refused as no-size, told}
 use Rattle.stream_meaning.specs.Connection.{Item, streams}
 use Rattle.stream_meaning.specs.Feeding.{Sign}
 use Rattle.stream_meaning.specs.Said.{saidOn}
@@ -70,19 +69,19 @@ New k Holds = (room : ℕ) → Row (made room .answer ≡ no-size k) (Holds room
 
 abbrev pub TellSize : ℕ → (List Sign → ℕ → Type 0) → Type 0
 TellSize k Holds =
-    (came : List Sign) (d : ChunkDeserializer) → Open came d → (size : ℕ)
+    (came : List Sign) (d : Decoder) → Open came d → (size : ℕ)
     → Row (told d size .answer ≡ no-size k) (Holds came size) (told d size .deserializer ≡ d)
 
 -- a call that is refused before its first byte ..
-abbrev pub Call : ℕ → (ChunkDeserializer → List ℕ → Type 0) → Type 0
+abbrev pub Call : ℕ → (Decoder → List ℕ → Type 0) → Type 0
 Call k Holds =
-    (came : List Sign) (d : ChunkDeserializer) → Open came d → (input payload : List ℕ) → Bytes input → (n : ℕ)
+    (came : List Sign) (d : Decoder) → Open came d → (input payload : List ℕ) → Bytes input → (n : ℕ)
     → Row (next d input payload .answer ≡ refused k n) (Holds d payload × (n ≡ 0)) (next d input payload ≡ outcome (refused k 0) d payload)
 
 -- .. and one that is refused "by bytes", at the n-th: a part of a chunk has come
 abbrev pub CallAt : (Chunk → List ℕ) → ℕ → ((room : ℕ) → List Item → Chunk → Type 0) → Type 0
 CallAt part k Holds =
-    (came : List Sign) (d : ChunkDeserializer) → Open came d → (input payload : List ℕ) → Bytes input → (n : ℕ)
+    (came : List Sign) (d : Decoder) → Open came d → (input payload : List ℕ) → Bytes input → (n : ℕ)
     → Row (next d input payload .answer ≡ refused k n) (Settled part (Holds (d .room)) came d input payload n) (Closed k d input payload n)
 
 -- The table. Order, where several hold: `unless`; 1 and 2, or 3 and 4, never hold together
@@ -134,13 +133,13 @@ pub record RefusalTable : Type 0 where
 
 -- "A closed decoder answers its own number to every later call, uses 0 bytes and changes nothing"
 pub record ClosedStays : Type 0 where
-  pub call : (d : ChunkDeserializer) → d .closed ≢ 0 → (input payload : List ℕ) → next d input payload ≡ outcome (refused (d .closed) 0) d payload
-  pub tell-size : (d : ChunkDeserializer) → d .closed ≢ 0 → (size : ℕ) → told d size ≡ telling (no-size (d .closed)) d
+  pub call : (d : Decoder) → d .closed ≢ 0 → (input payload : List ℕ) → next d input payload ≡ outcome (refused (d .closed) 0) d payload
+  pub tell-size : (d : Decoder) → d .closed ≢ 0 → (size : ℕ) → told d size ≡ telling (no-size (d .closed)) d
 
 -- 14 is of the length in a chunk's own header: no length over the room has been said on any stream, so a first chunk of type 2 or 3 is never 14
 pub record LengthsFit : Type 0 where
-  pub said : (came : List Sign) (d : ChunkDeserializer) → Open came d → (r : Read came) → (id : ℕ) → saidOn (streams (r .items) id) .length ≤ d .room
-  pub types : (came : List Sign) (d : ChunkDeserializer) → Open came d → (r : Read came) → (c : Chunk) → fourteen (r .items) c (d .room) → OneOf (type c) (0 ∷ 1 ∷ [])
+  pub said : (came : List Sign) (d : Decoder) → Open came d → (r : Read came) → (id : ℕ) → saidOn (streams (r .items) id) .length ≤ d .room
+  pub types : (came : List Sign) (d : Decoder) → Open came d → (r : Read came) → (c : Chunk) → fourteen (r .items) c (d .room) → OneOf (type c) (0 ∷ 1 ∷ [])
 
 -- and no entry point gives a number that the table does not name for it; a decoder that calls can make is open, or closed with one that closes
 pub record NoOther : Type 0 where
@@ -154,10 +153,10 @@ pub record NoOther : Type 0 where
   pub write-control : (c : ProtocolControl) (output : List ℕ) (k : ℕ) → putting c output .answer ≡ not-written k → OneOf k (16 ∷ 5 ∷ [])
   pub read-control : (kind : Kind) (bytes : List ℕ) (k : ℕ) → control-reading kind bytes ≡ no-control k → OneOf k (15 ∷ 16 ∷ [])
   pub new : (room k : ℕ) → made room .answer ≡ no-size k → OneOf k (6 ∷ [])
-  pub tell-size : (came : List Sign) (d : ChunkDeserializer) → Open came d → (size k : ℕ) → told d size .answer ≡ no-size k
+  pub tell-size : (came : List Sign) (d : Decoder) → Open came d → (size k : ℕ) → told d size .answer ≡ no-size k
       → OneOf k (3 ∷ 4 ∷ 8 ∷ [])
-  pub call : (came : List Sign) (d : ChunkDeserializer) → Open came d → (input payload : List ℕ) → Bytes input → (k n : ℕ)
+  pub call : (came : List Sign) (d : Decoder) → Open came d → (input payload : List ℕ) → Bytes input → (k n : ℕ)
       → next d input payload .answer ≡ refused k n
       → OneOf k (7 ∷ 9 ∷ 10 ∷ 11 ∷ 12 ∷ 13 ∷ 14 ∷ [])
-  pub open-or-closed : (d : ChunkDeserializer) → Made d
+  pub open-or-closed : (d : Decoder) → Made d
       → ((came : List Sign) × Open came d) ⊎ OneOf (d .closed) (6 ∷ 9 ∷ 10 ∷ 11 ∷ 12 ∷ 13 ∷ 14 ∷ [])

@@ -17,10 +17,10 @@ use Rattle.serializer.specs.Header.{header}
 use Rattle.serializer.specs.Message.{chunkStream}
 use Rattle.serializer.specs.Remembered.{fresh, previous, remember, rowOf}
 use Rattle.serializer.proofs.Stream.{stream-range}
-use Rattle.deserializer.specs.declared.ChunkDeserializer.{ChunkDeserializer}
-use Rattle.byte_machine.specs.declared.reader.Stage.the-variants.{Csid}
-use Rattle.deserializer.specs.Told.{made, maxRoom}
-use Rattle.deserializer.proofs.Reached.{Reached, made-reached}
+use Rattle.decoding.specs.Decoder.{Decoder}
+use Rattle.byte_machine.specs.Reader.{Csid}
+use Rattle.decoding.specs.Told.{made, maxRoom}
+use Rattle.decoding.proofs.Reached.{Reached, made-reached}
 use Rattle.fields.proofs.Tests.{clash}
 use Rattle.round_trip.proofs.Held.{Held, Spare}
 use Rattle.round_trip.proofs.Packets.{Awake}
@@ -32,7 +32,7 @@ pub record Knows (h : ChunkHeader) (id : ℕ) (rows : List ℕ) : Type 0 where
   pub held : h .«chunk_stream_id» ≡ id → h .«can_be_dropped» ≡ false → Held rows id (rowFor h)
   pub time : h .timestamp .value < 2 ^ 32
 
-pub record Agrees (s : ChunkSerializer) (d : ChunkDeserializer) : Type 0 where
+pub record Agrees (s : ChunkSerializer) (d : Decoder) : Type 0 where
   pub reached : Reached d
   pub stage : d .reader .stage ≡ Csid
   pub message : d .reader .message .id ≡ 0
@@ -43,7 +43,7 @@ pub record Agrees (s : ChunkSerializer) (d : ChunkDeserializer) : Type 0 where
   pub long : length (s .«previous_headers») ≡ 5
   pub knows : (i : ℕ) → i < 5 → Knows (getD (s .«previous_headers») i nothing) (i + 2) (d .rows)
 
-module _ (s : ChunkSerializer) (d : ChunkDeserializer) (a : Agrees s d) (m : Message) where
+module _ (s : ChunkSerializer) (d : Decoder) (a : Agrees s d) (m : Message) where
   row-less : rowOf m < 5
   row-less = let r = stream-range (m .«type_id») in omega (arith, r .0, r .1)
 
@@ -92,7 +92,7 @@ module _ (s : ChunkSerializer) (d : ChunkDeserializer) (a : Agrees s d) (m : Mes
   }
 
   -- a packet that is kept, and a chunk size from then on
-  pub handed-over : (d′ d″ : ChunkDeserializer) (size : ℕ) → At d (header m (previous s m)) 0 0 d′ → Reached d″ → d″ .reader ≡ d′ .reader → d″ .rows ≡ d′ .rows
+  pub handed-over : (d′ d″ : Decoder) (size : ℕ) → At d (header m (previous s m)) 0 0 d′ → Reached d″ → d″ .reader ≡ d′ .reader → d″ .rows ≡ d′ .rows
       → d″ .closed ≡ d′ .closed
       → d″ .«max_chunk_size» ≡ size
       → 0 < size

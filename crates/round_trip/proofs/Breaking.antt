@@ -6,7 +6,7 @@ use mathlib.Core.Path.{_≡_, refl, sym, ap, subst, _∙_}
 use native.Mathlib.Omega.{arith}
 use lib.ListN.{length, replicate, take, drop-of-length-le}
 use Rattle.serializer.specs.Remembered.{fresh}
-use Rattle.deserializer.specs.Told.{between, made}
+use Rattle.decoding.specs.Told.{between, made}
 use Rattle.laws.specs.Cutting.{feed, nothing-unread, offer}
 use Rattle.laws.specs.Walk.{Fed, Stand, before, walk}
 use Rattle.laws.proofs.Cutting.{all-unread, can-be-fed, feed-is-walk, feed-walks}

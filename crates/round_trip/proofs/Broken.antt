@@ -7,13 +7,13 @@ use native.Mathlib.Omega.{arith}
 use lib.ListN.{length, take, drop, drop-of-length-le, length-append, length-take, take-append-drop}
 use lib.Seq.{drop-append-seam, take-append-add, take-append-le, take-nil}
 use borrow.Author.Tests.{le-leb, leb-false, leb-true}
-use Rattle.deserializer.specs.declared.ChunkDeserializer.{ChunkDeserializer}
-use Rattle.deserializer.specs.Answer.{Listed, message as found, more, refused, used}
-use Rattle.deserializer.specs.Call.{Outcome, outcome, run}
-use Rattle.deserializer.specs.Told.{Size, between}
-use Rattle.deserializer.proofs.Cut.{goOn, run-append, run-kept}
-use Rattle.deserializer.proofs.Progress.{run-uses}
-use Rattle.deserializer.proofs.Runs.{next-runs}
+use Rattle.decoding.specs.Decoder.{Decoder}
+use Rattle.decoding.specs.Answer.{Listed, message as found, more, refused, used}
+use Rattle.decoding.specs.Call.{Outcome, outcome, run}
+use Rattle.decoding.specs.Told.{Size, between}
+use Rattle.decoding.proofs.Cut.{goOn, run-append, run-kept}
+use Rattle.decoding.proofs.Progress.{run-uses}
+use Rattle.decoding.proofs.Runs.{next-runs}
 use Rattle.stream_meaning.specs.Stream.{Message}
 use Rattle.laws.specs.Walk.{Fed, Stand, before, call, called, fed, tells, walk}
 use Rattle.laws.proofs.Walking.{call-is, call-walks}
@@ -30,10 +30,10 @@ pub record HasHandedOut (f : Fed Telling) (packets : List Packet) : Type 0 where
   pub still-long : f .stand .decoder .room ≤ length (f .stand .buffer)
   pub sizes-taken : AllTaken (f .stand .seen .answers)
 
-abbrev pub stand : ChunkDeserializer → List ℕ → List Packet → List Size → Stand Telling
+abbrev pub stand : Decoder → List ℕ → List Packet → List Size → Stand Telling
 stand d buffer packets answers = record { decoder = d; buffer = buffer; seen = record { later = map (λ (p : Packet). p .tell) packets; answers = answers } }
 
-module _ (p : Packet) (ps : List Packet) (d : ChunkDeserializer) (buffer : List ℕ) (answers : List Size) (c : Coming p (Awaits ps) d buffer) where
+module _ (p : Packet) (ps : List Packet) (d : Decoder) (buffer : List ℕ) (answers : List Size) (c : Coming p (Awaits ps) d buffer) where
   abbrev s : Stand Telling
   s = stand d buffer (p ∷ ps) answers
 
@@ -105,7 +105,7 @@ handed-first p packets f h = record {
   sizes-taken = h .sizes-taken;
 }
 
-pub walk-broken : (ps : List Packet) (d : ChunkDeserializer) (buffer : List ℕ) (answers : List Size) (n : ℕ) → Awaits ps d buffer → AllTaken answers
+pub walk-broken : (ps : List Packet) (d : Decoder) (buffer : List ℕ) (answers : List Size) (n : ℕ) → Awaits ps d buffer → AllTaken answers
     → HasHandedOut (walk teller (take n (bytes ps)) (stand d buffer ps answers)) (whole n ps)
 unfolding walk
 walk-broken [] d buffer answers n a t = rw (take-nil n) (record { exactly = refl; used = refl; still-open = a .0; still-long = a .1; sizes-taken = t })
@@ -130,7 +130,7 @@ walk-broken (p ∷ ps) d buffer answers n c t =
 both-begin : (xs ys zs : List ℕ) → xs ++ ys ≡ xs ++ zs → ys ≡ zs
 both-begin xs ys zs e = sym (drop-append-seam xs ys) ∙ ap (λ (l : List ℕ). drop (length xs) l) e ∙ drop-append-seam xs zs
 
-pub walk-between : (ps : List Packet) (d : ChunkDeserializer) (buffer : List ℕ) (answers : List Size) (n : ℕ) → Awaits ps d buffer
+pub walk-between : (ps : List Packet) (d : Decoder) (buffer : List ℕ) (answers : List Size) (n : ℕ) → Awaits ps d buffer
     → bytes (whole n ps) ≡ take n (bytes ps)
     → between (walk teller (take n (bytes ps)) (stand d buffer ps answers) .stand .decoder .reader) ≡ true
 unfolding walk

@@ -6,7 +6,7 @@ use native.Mathlib.Omega.{arith}
 use lib.ListN.{length, take}
 use lib.Seq.{take-all}
 use Rattle.serializer.specs.Remembered.{fresh}
-use Rattle.deserializer.specs.Told.{between}
+use Rattle.decoding.specs.Told.{between}
 use Rattle.round_trip.specs.Breaking.{Breaks, brokenAfter, whole}
 use Rattle.round_trip.specs.Demand3.{Begins, Demand3, HandsOut, Note, Packet, Receiver, bytes, handed, kept, last, log, receiver}
 use Rattle.round_trip.proofs.Breaking.{breaking}

@@ -18,15 +18,14 @@ use Rattle.serializer.specs.Header.{delta, format, headerBy}
 use Rattle.serializer.specs.Message.{chunkStream}
 use Rattle.serializer.specs.Packet.{chunk, extended}
 use Rattle.chunk_header.specs.Limits.{maxField}
-use Rattle.deserializer.specs.declared.ChunkDeserializer.{ChunkDeserializer}
-use Rattle.byte_machine.specs.declared.reader.Stage.the-variants.{Csid}
-use Rattle.chunk_meaning.specs.declared.Row.{Row}
-use Rattle.deserializer.specs.Chunk.{ChunkFits, basicRefused, headerRefused, stored}
-use Rattle.deserializer.specs.Chunk.{header as headed}
+use Rattle.decoding.specs.Decoder.{Decoder}
+use Rattle.byte_machine.specs.Reader.{Csid}
+use Rattle.chunk_meaning.specs.Stored.{Row}
+use Rattle.decoding.specs.Chunk.{ChunkFits, basicRefused, headerRefused, stored, header as headed}
 use Rattle.chunk_meaning.specs.Meaning.{firstRefusal, basicRefusal}
 use Rattle.chunk_header.specs.Table.{isFull}
 use Rattle.byte_machine.specs.Rows.{free}
-use Rattle.deserializer.proofs.Reached.{Reached}
+use Rattle.decoding.proofs.Reached.{Reached}
 use Rattle.round_trip.proofs.Held.{Held, Spare, free-some, held-there}
 use Rattle.round_trip.proofs.Wire.{Fits, Taken, extended-fits, fields-fit, row-held, row-id, rowFor, says-field}
 
@@ -101,7 +100,7 @@ chosen m previous =
     by-tests false true false true true true true a b c d e g = empty (goes-on a b c) (eqb-true _ _ d) (eqb-true _ _ e) (eqb-true _ _ g)
 
 -- a first chunk: the decoder is between messages, and holds what is remembered of a stream that goes on
-module _ (d : ChunkDeserializer) (m : Message) (previous : ChunkHeader) (piece : List ℕ) (reached : Reached d) (stage : d .reader .stage ≡ Csid) (between : d .reader .message .id ≡ 0) (spare : Spare (d .rows))
+module _ (d : Decoder) (m : Message) (previous : ChunkHeader) (piece : List ℕ) (reached : Reached d) (stage : d .reader .stage ≡ Csid) (between : d .reader .message .id ≡ 0) (spare : Spare (d .rows))
     (knows : Goes-on m previous → Held (d .rows) (chunkStream (m .«type_id»)) (rowFor previous)) where
   abbrev first : ChunkHeaderFormat → Chunk
   first f = chunk f (headerBy f m previous) piece

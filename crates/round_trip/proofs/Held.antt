@@ -9,7 +9,7 @@ use lib.Dec.{ltb, eqb}
 use lib.ListN.{length, length-append}
 use borrow.Author.Tests.{eqb-true}
 use Rattle.fields.specs.Cases.{among}
-use Rattle.chunk_meaning.specs.declared.Row.{Row}
+use Rattle.chunk_meaning.specs.Stored.{Row}
 use Rattle.byte_machine.specs.Rows.{find, free, ownRow, rowAt}
 use Rattle.byte_machine.proofs.Putting.{Lists, Puts, free-after}
 

@@ -11,14 +11,13 @@ use Rattle.serializer.specs.declared.ChunkSerializer.{ChunkSerializer}
 use Rattle.serializer.specs.Answer.{refused as not-written}
 use Rattle.serializer.specs.Header.{header}
 use Rattle.serializer.specs.Remembered.{fresh, packetOf, previous, remember}
-use Rattle.deserializer.specs.declared.ChunkDeserializer.{ChunkDeserializer}
-use Rattle.byte_machine.specs.declared.reader.Reader.{Reader}
-use Rattle.byte_machine.specs.declared.reader.Stage.the-variants.{Csid}
-use Rattle.deserializer.specs.Answer.{message as found}
-use Rattle.deserializer.specs.Call.{outcome, run}
-use Rattle.deserializer.specs.Told.{between, outcome as telling, sized, taken, told, maxRoom, made}
+use Rattle.decoding.specs.Decoder.{Decoder}
+use Rattle.byte_machine.specs.Reader.{Reader, Csid}
+use Rattle.decoding.specs.Answer.{message as found}
+use Rattle.decoding.specs.Call.{outcome, run}
+use Rattle.decoding.specs.Told.{between, outcome as telling, sized, taken, told, maxRoom, made}
 use Rattle.chunk_header.specs.Limits.{maxSize}
-use Rattle.deserializer.proofs.Reached.{Reached, told-reached}
+use Rattle.decoding.proofs.Reached.{Reached, told-reached}
 use Rattle.fields.proofs.Tests.{never}
 use Rattle.stream_meaning.specs.Stream.{Message}
 use Rattle.round_trip.specs.Demand3.{Call, InRange, LeavesOutDroppable, Packet, Ranged, Sending, bytes, encodes, keep, kept, longest, mayBeLeftOut, message, messageOf, resize, send, tellOf}
@@ -35,7 +34,7 @@ is-between : (r : Reader) → r .stage ≡ Csid → r .message .id ≡ 0 → bet
 is-between r s m = rw (s, eq-eqb (r .message .id) 0 m)
 
 -- a size told between messages is taken
-told-taken : (d : ChunkDeserializer) (size : ℕ) → d .closed ≡ 0 → 0 < size → size ≤ maxSize → between (d .reader) ≡ true → told d size ≡ telling taken (sized d size)
+told-taken : (d : Decoder) (size : ℕ) → d .closed ≡ 0 → 0 < size → size ≤ maxSize → between (d .reader) ≡ true → told d size ≡ telling taken (sized d size)
 unfolding told
 told-taken d size c p q b = rw (eq-eqb (d .closed) 0 c, ne-eqb size 0 (omega (arith, p)), le-ltb maxSize size q, b)
 
@@ -44,12 +43,12 @@ abbrev packetFor : ChunkSerializer → Call → Packet
 packetFor s c = record { bytes = packetOf s (encoded c) (body c); message = messageOf c; tell = tellOf c }
 
 -- a packet is to come to a decoder, alone or with others after it, and then what is to come after it
-pub record Coming (p : Packet) (Then : ChunkDeserializer → List ℕ → Type 0) (d : ChunkDeserializer) (buffer : List ℕ) : Type 0 where
+pub record Coming (p : Packet) (Then : Decoder → List ℕ → Type 0) (d : Decoder) (buffer : List ℕ) : Type 0 where
   pub open-still : d .closed ≡ 0
   pub between-now : between (d .reader) ≡ true
   pub long : d .room ≤ length buffer
   pub length-of : ℕ
-  pub decoder : ChunkDeserializer
+  pub decoder : Decoder
   pub buffer-after : List ℕ
   pub runs : run (p .bytes) d buffer 0
       ≡ outcome (found (p .message .type) (p .message .stream) (p .message .time) length-of (length (p .bytes))) decoder buffer-after
@@ -57,17 +56,17 @@ pub record Coming (p : Packet) (Then : ChunkDeserializer → List ℕ → Type 0
   pub takes : tells (sizeOf (p .tell)) decoder .answer ≡ taken
   pub then : Then (tells (sizeOf (p .tell)) decoder .deserializer) buffer-after
 
-abbrev pub Awaits : List Packet → ChunkDeserializer → List ℕ → Type 0
+abbrev pub Awaits : List Packet → Decoder → List ℕ → Type 0
 Awaits [] d buffer = (d .closed ≡ 0) × (d .room ≤ length buffer) × (between (d .reader) ≡ true)
 Awaits (p ∷ ps) d buffer = Coming p (Awaits ps) d buffer
 
 -- what is told after a packet's message is taken, and leaves encoder and decoder agreeing
-record Tells (s : ChunkSerializer) (c : Call) (d : ChunkDeserializer) : Type 0 where
+record Tells (s : ChunkSerializer) (c : Call) (d : Decoder) : Type 0 where
   takes : tells (sizeOf (tellOf c)) d .answer ≡ taken
   agrees : Agrees (remember s (encoded c) (sizeAfter s c)) (tells (sizeOf (tellOf c)) d .deserializer)
   room : tells (sizeOf (tellOf c)) d .deserializer .room ≡ d .room
 
-tells-on : (s : ChunkSerializer) (d : ChunkDeserializer) (c : Call) (d′ : ChunkDeserializer) → Agrees s d → Taken c → Ranged c
+tells-on : (s : ChunkSerializer) (d : Decoder) (c : Call) (d′ : Decoder) → Agrees s d → Taken c → Ranged c
     → At d (header (encoded c) (previous s (encoded c))) 0 0 d′
     → Tells s c d′
 tells-on s d (send type stream time payload forced droppable output) d′ a t r at = record {
@@ -94,7 +93,7 @@ stored-first : (buffer xs : List ℕ) → length xs ≤ length buffer → take (
 stored-first buffer xs h = rw (sets-eq xs buffer 0 (omega (arith, h))) (take-append-seam xs (drop (0 + length xs) buffer))
 
 -- a packet that is kept is to come, and then what is to come after it
-module _ (s : ChunkSerializer) (d : ChunkDeserializer) (c : Call) (buffer : List ℕ) (ps : List Packet) (a : Agrees s d) (r : Ranged c) (o : Accepted s c (encodes s c))
+module _ (s : ChunkSerializer) (d : Decoder) (c : Call) (buffer : List ℕ) (ps : List Packet) (a : Agrees s d) (r : Ranged c) (o : Accepted s c (encodes s c))
     (fit : length (body c) ≤ d .room) (room : d .room ≤ length buffer) where
   abbrev p : Packet
   p = packetFor s c
@@ -118,7 +117,7 @@ module _ (s : ChunkSerializer) (d : ChunkDeserializer) (c : Call) (buffer : List
 
   coming : (w : Reads d (header (encoded c) (previous s (encoded c))) (length (p .bytes)) buffer′ (run (p .bytes) d buffer 0))
       → Tells s c (w .decoder)
-      → ((d″ : ChunkDeserializer) → Agrees (remember s (encoded c) (sizeAfter s c)) d″ → d″ .room ≡ d .room → Awaits ps d″ buffer′)
+      → ((d″ : Decoder) → Agrees (remember s (encoded c) (sizeAfter s c)) d″ → d″ .room ≡ d .room → Awaits ps d″ buffer′)
       → Awaits (p ∷ ps) d buffer
   coming w t then = record {
     open-still = a .closed;
@@ -133,7 +132,7 @@ module _ (s : ChunkSerializer) (d : ChunkDeserializer) (c : Call) (buffer : List
     then = then _ (t .agrees) (t .room ∙ w .at .room);
   }
 
-  pub packet-awaited : ((d″ : ChunkDeserializer) → Agrees (remember s (encoded c) (sizeAfter s c)) d″ → d″ .room ≡ d .room → Awaits ps d″ buffer′)
+  pub packet-awaited : ((d″ : Decoder) → Agrees (remember s (encoded c) (sizeAfter s c)) d″ → d″ .room ≡ d .room → Awaits ps d″ buffer′)
       → Awaits (p ∷ ps) d buffer
   packet-awaited then = coming reads (tells-on s d c (reads .decoder) a (o .size) r (reads .at)) then
 
@@ -165,10 +164,10 @@ body-is c = ap (λ (m : Message). m .payload) (message-is c)
 -- what is kept of a run is to come, where encoder and decoder agree at its start
 abbrev Kept : List Sending → Type 0
 Kept xs =
-    (s : ChunkSerializer) (d : ChunkDeserializer) (buffer : List ℕ) → Agrees s d → longest (kept s xs) ≤ d .room → d .room ≤ length buffer
+    (s : ChunkSerializer) (d : Decoder) (buffer : List ℕ) → Agrees s d → longest (kept s xs) ≤ d .room → d .room ≤ length buffer
     → Awaits (kept s xs) d buffer
 
-module _ (c : Call) (xs : List Sending) (r : Ranged c) (later : Kept xs) (s : ChunkSerializer) (d : ChunkDeserializer) (buffer : List ℕ) (a : Agrees s d) (room : d .room ≤ length buffer) where
+module _ (c : Call) (xs : List Sending) (r : Ranged c) (later : Kept xs) (s : ChunkSerializer) (d : Decoder) (buffer : List ℕ) (a : Agrees s d) (room : d .room ≤ length buffer) where
   abbrev s′ : ChunkSerializer
   s′ = remember s (encoded c) (sizeAfter s c)
 

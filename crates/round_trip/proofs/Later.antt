@@ -9,18 +9,16 @@ use lib.ListN.{length}
 use borrow.Author.Tests.{eq-eqb, ne-eqb}
 use Rattle.chunk_header.specs.declared.ChunkHeader.{ChunkHeader}
 use Rattle.chunk_header.specs.Layout.{Chunk}
-use Rattle.serializer.specs.Packet.{chunk, extended}
-use Rattle.deserializer.specs.declared.ChunkDeserializer.{ChunkDeserializer}
-use Rattle.deserializer.specs.Chunk.{ChunkFits, basicRefused, headerRefused, row, stored}
-use Rattle.deserializer.specs.Chunk.{header as headed}
+use Rattle.serializer.specs.Packet.{chunk, extended, laterFormat}
+use Rattle.decoding.specs.Decoder.{Decoder}
+use Rattle.decoding.specs.Chunk.{ChunkFits, basicRefused, headerRefused, row, stored, header as headed}
 use Rattle.chunk_meaning.specs.Meaning.{basicRefusal, laterRefusal}
-use Rattle.byte_machine.specs.declared.reader.Stage.the-variants.{Csid}
-use Rattle.deserializer.proofs.Reached.{Reached}
+use Rattle.byte_machine.specs.Reader.{Csid}
+use Rattle.decoding.proofs.Reached.{Reached}
 use Rattle.round_trip.proofs.Held.{Held, held-there}
-use Rattle.serializer.specs.Packet.{laterFormat}
 use Rattle.round_trip.proofs.Wire.{Fits, Taken, extended-fits, fields-fit, row-held, rowFor, says-field}
 
-module _ (d : ChunkDeserializer) (h : ChunkHeader) (piece : List ℕ) (reached : Reached d) (stage : d .reader .stage ≡ Csid) (own : d .reader .message .id ≡ h .«chunk_stream_id»)
+module _ (d : Decoder) (h : ChunkHeader) (piece : List ℕ) (reached : Reached d) (stage : d .reader .stage ≡ Csid) (own : d .reader .message .id ≡ h .«chunk_stream_id»)
     (held : Held (d .rows) (h .«chunk_stream_id») (rowFor h)) (k : Fits h) where
   abbrev later : Bool → Chunk
   later forced = chunk (laterFormat forced) h piece

@@ -16,11 +16,11 @@ use Rattle.serializer.specs.Message.{chunkStream}
 use Rattle.serializer.specs.Packet.{chunk, laterFormat, packet}
 use Rattle.serializer.proofs.Later.{later}
 use Rattle.serializer.proofs.Pieces.{pieces-step}
-use Rattle.deserializer.specs.declared.ChunkDeserializer.{ChunkDeserializer}
-use Rattle.byte_machine.specs.declared.reader.Stage.the-variants.{Csid}
-use Rattle.deserializer.specs.Call.{run}
-use Rattle.deserializer.specs.Chunk.{got}
-use Rattle.deserializer.proofs.Reached.{Reached}
+use Rattle.decoding.specs.Decoder.{Decoder}
+use Rattle.byte_machine.specs.Reader.{Csid}
+use Rattle.decoding.specs.Call.{run}
+use Rattle.decoding.specs.Chunk.{got}
+use Rattle.decoding.proofs.Reached.{Reached}
 use Rattle.round_trip.proofs.First.{Goes-on, chosen, first-chunk}
 use Rattle.round_trip.proofs.Held.{Held, Spare}
 use Rattle.round_trip.proofs.Reading.{Reads, chunk-then, later-reads}
@@ -33,7 +33,7 @@ unfolding format
 forced-time m previous e = rw e
 
 -- what a decoder is to be for a message after what is remembered of its stream
-pub record Awake (d : ChunkDeserializer) (m : Message) (previous : ChunkHeader) : Type 0 where
+pub record Awake (d : Decoder) (m : Message) (previous : ChunkHeader) : Type 0 where
   pub reached : Reached d
   pub stage : d .reader .stage ≡ Csid
   pub message : d .reader .message .id ≡ 0
@@ -41,7 +41,7 @@ pub record Awake (d : ChunkDeserializer) (m : Message) (previous : ChunkHeader) 
   pub knows : Goes-on m previous → Held (d .rows) (chunkStream (m .«type_id»)) (rowFor previous)
   pub before : previous .timestamp .value < 2 ^ 32
 
-module _ (d : ChunkDeserializer) (m : Message) (previous : ChunkHeader) (payload rest : List ℕ) (w : Awake d m previous) (fits : (f : ChunkHeaderFormat) → Fits (headerBy f m previous))
+module _ (d : Decoder) (m : Message) (previous : ChunkHeader) (payload rest : List ℕ) (w : Awake d m previous) (fits : (f : ChunkHeaderFormat) → Fits (headerBy f m previous))
     (some : 0 < d .«max_chunk_size») (long : m .length ≡ length payload) (bytes : 0 < length payload) (room : m .length ≤ d .room) where
   abbrev size : ℕ
   size = d .«max_chunk_size»
@@ -63,7 +63,7 @@ module _ (d : ChunkDeserializer) (m : Message) (previous : ChunkHeader) (payload
       first-chunk d m previous (take size payload) (w .reached) (w .stage) (w .message) (w .spare) (w .knows) (format m previous) (chosen m previous) fits (w .before) room
       (rw length-take (omega (arith, long)))
 
-  others : size < length payload → (d′ : ChunkDeserializer) (buffer : List ℕ) (n : ℕ) → At d h (h .«chunk_stream_id») (got d c + length (take size payload)) d′
+  others : size < length payload → (d′ : Decoder) (buffer : List ℕ) (n : ℕ) → At d h (h .«chunk_stream_id») (got d c + length (take size payload)) d′
       → Reads d′ h (n + length (later later-format h size (drop size payload))) (sets buffer (got d c + length (take size payload)) (drop size payload))
       (run (later later-format h size (drop size payload) ++ rest) d′ buffer n)
   others less d′ buffer n a =

@@ -6,11 +6,11 @@ use native.Mathlib.Omega.{arith}
 use lib.ListN.{length, drop, length-append, length-drop}
 use lib.Seq.{drop-append-le, take-append-seam}
 use Rattle.serializer.specs.Remembered.{fresh}
-use Rattle.deserializer.specs.Answer.{used}
-use Rattle.deserializer.specs.Call.{next as called}
-use Rattle.deserializer.specs.Told.{maxRoom}
-use Rattle.deserializer.proofs.Progress.{run-uses, uses-a-byte}
-use Rattle.deserializer.proofs.Runs.{next-runs}
+use Rattle.decoding.specs.Answer.{used}
+use Rattle.decoding.specs.Call.{next as called}
+use Rattle.decoding.specs.Told.{maxRoom}
+use Rattle.decoding.proofs.Progress.{run-uses, uses-a-byte}
+use Rattle.decoding.proofs.Runs.{next-runs}
 use Rattle.round_trip.specs.Demand3.{InRange, LeavesOutDroppable, Receiver, Sending, after, bytes, kept, last, longest, offered, receiver}
 use Rattle.round_trip.specs.Pieces.{Fed, Offers, joined, next, none, offer}
 use Rattle.round_trip.proofs.Breaking.{always-ready}

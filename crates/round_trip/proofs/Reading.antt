@@ -15,22 +15,22 @@ use Rattle.chunk_header.specs.declared.ChunkHeaderFormat.{ChunkHeaderFormat}
 use Rattle.chunk_header.specs.Layout.{Chunk, chunkBytes}
 use Rattle.serializer.specs.Packet.{chunk, laterFormat}
 use Rattle.serializer.proofs.Later.{later, later-none, later-step}
-use Rattle.deserializer.specs.declared.ChunkDeserializer.{ChunkDeserializer}
-use Rattle.deserializer.specs.Answer.{message as found}
-use Rattle.deserializer.specs.Call.{Outcome, outcome, run}
-use Rattle.deserializer.specs.Chunk.{got}
+use Rattle.decoding.specs.Decoder.{Decoder}
+use Rattle.decoding.specs.Answer.{message as found}
+use Rattle.decoding.specs.Call.{Outcome, outcome, run}
+use Rattle.decoding.specs.Chunk.{got}
 use Rattle.round_trip.proofs.Later.{later-chunk}
 use Rattle.round_trip.proofs.Taking.{At, Last, Onward, at-then, chunk-ends, chunk-goes-on}
 use Rattle.round_trip.proofs.Wire.{Fits, Taken}
 
 -- an outcome that hands out the message of a header, after so many bytes, and leaves a decoder between messages
-pub record Reads (d : ChunkDeserializer) (h : ChunkHeader) (used : ℕ) (buffer : List ℕ) (o : Outcome) : Type 0 where
-  pub decoder : ChunkDeserializer
+pub record Reads (d : Decoder) (h : ChunkHeader) (used : ℕ) (buffer : List ℕ) (o : Outcome) : Type 0 where
+  pub decoder : Decoder
   pub runs : o ≡ outcome (found (h .«message_type_id») (h .«message_stream_id») (h .timestamp .value) (h .«message_length») used) decoder buffer
   pub at : At d h 0 0 decoder
 
 -- a chunk with the first of the bytes that are left, and then the chunks with the others
-module _ (d : ChunkDeserializer) (h : ChunkHeader) (f g : ChunkHeaderFormat) (size : ℕ) (xs rest : List ℕ) (k : Fits h) (some : 0 < size) where
+module _ (d : Decoder) (h : ChunkHeader) (f g : ChunkHeaderFormat) (size : ℕ) (xs rest : List ℕ) (k : Fits h) (some : 0 < size) where
   abbrev c : Chunk
   c = chunk f h (take size xs)
 
@@ -49,7 +49,7 @@ module _ (d : ChunkDeserializer) (h : ChunkHeader) (f g : ChunkHeaderFormat) (si
 
   abbrev ReadOthers : Type 0
   ReadOthers =
-      (d′ : ChunkDeserializer) (buffer : List ℕ) (n : ℕ) → At d h (h .«chunk_stream_id») done d′
+      (d′ : Decoder) (buffer : List ℕ) (n : ℕ) → At d h (h .«chunk_stream_id») done d′
       → Reads d′ h (n + length others) (sets buffer done (drop size xs)) (run (others ++ rest) d′ buffer n)
 
   then-others : Onward d c h → ReadOthers → (buffer : List ℕ) (n : ℕ) → Read buffer n
@@ -95,7 +95,7 @@ module _ (d : ChunkDeserializer) (h : ChunkHeader) (f g : ChunkHeaderFormat) (si
           then-none (chunk-ends t k refl (omega (arith, left, l))) all buffer n
 
 -- what a decoder inside a message has of it
-got-inside : (d : ChunkDeserializer) (c : Chunk) (id n : ℕ) → 2 ≤ id → d .reader .message .id ≡ id → d .reader .message .got ≡ n → got d c ≡ n
+got-inside : (d : Decoder) (c : Chunk) (id n : ℕ) → 2 ≤ id → d .reader .message .id ≡ id → d .reader .message .got ≡ n → got d c ≡ n
 got-inside d c id n p e q = rw (ne-eqb (d .reader .message .id) 0 (omega (arith, e, p))) q
 
 -- the later chunks, for as many bytes as are left
@@ -103,16 +103,16 @@ module _ (h : ChunkHeader) (k : Fits h) (forced : Bool) (time : forced ≡ true 
   abbrev g : ChunkHeaderFormat
   g = laterFormat forced
 
-  later-taken : (d d′ : ChunkDeserializer) (n : ℕ) (xs : List ℕ) → At d h (h .«chunk_stream_id») n d′ → d .«max_chunk_size» ≡ size → n + length xs ≡ h .«message_length»
+  later-taken : (d d′ : Decoder) (n : ℕ) (xs : List ℕ) → At d h (h .«chunk_stream_id») n d′ → d .«max_chunk_size» ≡ size → n + length xs ≡ h .«message_length»
       → Taken d′ (chunk g h (take size xs)) h
   later-taken d d′ n xs a e l =
       let m : length (take size xs) ≡ min size (length xs) = length-take size xs in
       later-chunk d′ h (take size xs) (a .reached) (a .stage) (a .message) (a .moves .held) k forced time (omega (arith, m, a .size, a .so-far, e, l))
 
   -- one of them, given how the others are read
-  next-reads : (d d′ : ChunkDeserializer) (n : ℕ) (xs buffer : List ℕ) (used : ℕ) → At d h (h .«chunk_stream_id») n d′ → d .«max_chunk_size» ≡ size → n + length xs ≡ h .«message_length»
+  next-reads : (d d′ : Decoder) (n : ℕ) (xs buffer : List ℕ) (used : ℕ) → At d h (h .«chunk_stream_id») n d′ → d .«max_chunk_size» ≡ size → n + length xs ≡ h .«message_length»
       → 0 < length xs
-      → (size < length xs → (d″ : ChunkDeserializer) (buffer′ : List ℕ) (used′ : ℕ) → At d′ h (h .«chunk_stream_id») (n + length (take size xs)) d″
+      → (size < length xs → (d″ : Decoder) (buffer′ : List ℕ) (used′ : ℕ) → At d′ h (h .«chunk_stream_id») (n + length (take size xs)) d″
       → Reads d″ h (used′ + length (later g h size (drop size xs))) (sets buffer′ (n + length (take size xs)) (drop size xs))
       (run (later g h size (drop size xs) ++ rest) d″ buffer′ used′))
       → Reads d′ h (used + length (later g h size xs)) (sets buffer n xs) (run (later g h size xs ++ rest) d′ buffer used)
@@ -134,7 +134,7 @@ module _ (h : ChunkHeader) (k : Fits h) (forced : Bool) (time : forced ≡ true 
   left-less : (xs : List ℕ) (b : ℕ) → length xs ≤ suc b → length (drop size xs) ≤ b
   left-less xs b q = rw length-drop (omega (arith, q, some))
 
-  pub later-reads : (b : ℕ) (d d′ : ChunkDeserializer) (n : ℕ) (xs buffer : List ℕ) (used : ℕ) → At d h (h .«chunk_stream_id») n d′ → d .«max_chunk_size» ≡ size
+  pub later-reads : (b : ℕ) (d d′ : Decoder) (n : ℕ) (xs buffer : List ℕ) (used : ℕ) → At d h (h .«chunk_stream_id») n d′ → d .«max_chunk_size» ≡ size
       → n + length xs ≡ h .«message_length»
       → 0 < length xs
       → length xs ≤ b

@@ -6,17 +6,16 @@ use mathlib.Core.Path.{_≡_, refl, sym, ap, _∙_}
 use native.Mathlib.Omega.{arith}
 use lib.ListN.{length, take, drop, length-drop, take-append-drop}
 use lib.Seq.{drop-append-le}
-use Rattle.deserializer.specs.declared.ChunkDeserializer.{ChunkDeserializer}
-use Rattle.deserializer.specs.Answer.{Listed, message as found, more, refused as not-read, used}
-use Rattle.deserializer.specs.Call.{Outcome, next}
-use Rattle.deserializer.specs.Told.{Outcome as Told, Size, taken}
-use Rattle.deserializer.proofs.Entries.{next-by}
-use Rattle.deserializer.proofs.Progress.{run-uses, uses-a-byte}
+use Rattle.decoding.specs.Decoder.{Decoder}
+use Rattle.decoding.specs.Answer.{Listed, message as found, more, refused as not-read, used}
+use Rattle.decoding.specs.Call.{Outcome, next}
+use Rattle.decoding.specs.Told.{Outcome as Told, Size, taken}
+use Rattle.decoding.proofs.Entries.{next-by}
+use Rattle.decoding.proofs.Progress.{run-uses, uses-a-byte}
 use Rattle.stream_meaning.specs.Stream.{Message}
 use Rattle.laws.specs.Cutting.{Move, arrive, feed, offer, refusalOf, refusals}
 use Rattle.laws.specs.Walk.{Fed, Stand, Teller, answered, call, leaving, tells}
-use Rattle.round_trip.specs.Demand3.{Note, Receiver, Tell, after, afterOf, handed, last, log, message, new, notes, notesOf, nothing, offered, offers, tail, tellFirst}
-use Rattle.round_trip.specs.Demand3.{refusals as not-taken}
+use Rattle.round_trip.specs.Demand3.{Note, Receiver, Tell, after, afterOf, handed, last, log, message, new, notes, notesOf, nothing, offered, offers, tail, tellFirst, refusals as not-taken}
 
 -- "told each new size straight after its message": what is still to be told, and what the decoder answered
 pub record Telling : Type 0 where
@@ -34,7 +33,7 @@ sizeFirst (tell ∷ later) = sizeOf tell
 abbrev pub teller : Teller Telling
 teller = record { size = λ t m. sizeFirst (t .later); hears = λ t m answer. record { later = tail (t .later); answers = answer ∷ t .answers } }
 
-tells-first : (tells-of : List Tell) (d : ChunkDeserializer) → tells (sizeFirst tells-of) d ≡ tellFirst tells-of d
+tells-first : (tells-of : List Tell) (d : Decoder) → tells (sizeFirst tells-of) d ≡ tellFirst tells-of d
 tells-first [] d = refl
 tells-first (nothing ∷ later) d = refl
 tells-first (new size ∷ later) d = refl
@@ -52,7 +51,7 @@ AllTaken [] = Unit {0}
 AllTaken (answer ∷ answers) = (answer ≡ taken) × AllTaken answers
 
 -- a call uses no more than it is offered, and what it leaves of that stands before the rest
-used-most : (d : ChunkDeserializer) (input payload : List ℕ) → used (next d input payload .answer) ≤ length input
+used-most : (d : Decoder) (input payload : List ℕ) → used (next d input payload .answer) ≤ length input
 used-most d input payload =
     next-by d input payload (λ (o : Outcome). used (o .answer) ≤ length input) (λ n. omega arith) (λ l. omega arith)
     (λ e l. let u = run-uses input d payload 0 .most in omega (arith, u))

@@ -10,18 +10,16 @@ use lib.Seq.{sets}
 use borrow.Author.Tests.{le-ltb, lt-ltb}
 use Rattle.chunk_header.specs.declared.ChunkHeader.{ChunkHeader}
 use Rattle.chunk_header.specs.Layout.{Chunk, chunkBytes}
-use Rattle.deserializer.specs.declared.ChunkDeserializer.{ChunkDeserializer}
-use Rattle.byte_machine.specs.declared.reader.Unfinished.{Unfinished}
-use Rattle.byte_machine.specs.declared.reader.Stage.the-variants.{Csid}
-use Rattle.chunk_meaning.specs.declared.Row.{Row}
-use Rattle.byte_machine.specs.Reader.{unfinished}
+use Rattle.decoding.specs.Decoder.{Decoder}
+use Rattle.byte_machine.specs.Reader.{Unfinished, Csid, unfinished}
+use Rattle.chunk_meaning.specs.Stored.{Row}
 use Rattle.byte_machine.specs.Rows.{ownRow}
 use Rattle.byte_machine.proofs.Putting.{Puts}
-use Rattle.deserializer.specs.Answer.{message as found}
-use Rattle.deserializer.specs.Call.{after, outcome, run}
-use Rattle.deserializer.specs.Chunk.{got, header}
-use Rattle.deserializer.proofs.Reached.{Reached}
-use Rattle.deserializer.proofs.Taken.{Leaves, done, goes, goes-on, hands-out, leaves, taking}
+use Rattle.decoding.specs.Answer.{message as found}
+use Rattle.decoding.specs.Call.{after, outcome, run}
+use Rattle.decoding.specs.Chunk.{got, header}
+use Rattle.decoding.proofs.Reached.{Reached}
+use Rattle.decoding.proofs.Taken.{Leaves, done, goes, goes-on, hands-out, leaves, taking}
 use Rattle.round_trip.proofs.Held.{Held, Spare, still-spare}
 use Rattle.round_trip.proofs.Wire.{Fits, Taken, rowFor}
 
@@ -35,7 +33,7 @@ moves-then : {id : ℕ} {a b : Row} {rows rows′ rows″ : List ℕ} → Moves 
 moves-then m n = record { held = n .held; others = λ j p q. n .others j p q ∙ m .others j p q; spare = λ s. n .spare (m .spare s) }
 
 -- a decoder between chunks, some chunks of a message after another one: what the message has so far, its row, and all else as it was
-pub record At (d : ChunkDeserializer) (h : ChunkHeader) (id got : ℕ) (d′ : ChunkDeserializer) : Type 0 where
+pub record At (d : Decoder) (h : ChunkHeader) (id got : ℕ) (d′ : Decoder) : Type 0 where
   pub reached : Reached d′
   pub stage : d′ .reader .stage ≡ Csid
   pub message : d′ .reader .message .id ≡ id
@@ -46,7 +44,7 @@ pub record At (d : ChunkDeserializer) (h : ChunkHeader) (id got : ℕ) (d′ : C
   pub moves : Moves (h .«chunk_stream_id») (rowFor h) (d .rows) (d′ .rows)
 
 -- what came before a decoder that some chunks of the message have come to
-pub at-then : {d d′ d″ : ChunkDeserializer} {h : ChunkHeader} {id id′ got got′ : ℕ} → At d h id got d′ → At d′ h id′ got′ d″ → At d h id′ got′ d″
+pub at-then : {d d′ d″ : Decoder} {h : ChunkHeader} {id id′ got got′ : ℕ} → At d h id got d′ → At d′ h id′ got′ d″ → At d h id′ got′ d″
 at-then a b = record {
   reached = b .reached;
   stage = b .stage;
@@ -59,22 +57,22 @@ at-then a b = record {
 }
 
 -- a chunk after which its message goes on: the run goes on after it, from a decoder between chunks
-pub record Onward (d : ChunkDeserializer) (c : Chunk) (h : ChunkHeader) : Type 0 where
-  pub decoder : ChunkDeserializer
+pub record Onward (d : Decoder) (c : Chunk) (h : ChunkHeader) : Type 0 where
+  pub decoder : Decoder
   pub runs : (buffer : List ℕ) (n : ℕ) (rest : List ℕ)
       → run (chunkBytes c ++ rest) d buffer n ≡ run rest decoder (sets buffer (got d c) (c .payload)) (n + length (chunkBytes c))
   pub at : At d h (h .«chunk_stream_id») (got d c + length (c .payload)) decoder
 
 -- and one with which its message ends, and is handed out
-pub record Last (d : ChunkDeserializer) (c : Chunk) (h : ChunkHeader) : Type 0 where
-  pub decoder : ChunkDeserializer
+pub record Last (d : Decoder) (c : Chunk) (h : ChunkHeader) : Type 0 where
+  pub decoder : Decoder
   pub runs : (buffer : List ℕ) (n : ℕ) (rest : List ℕ)
       → run (chunkBytes c ++ rest) d buffer n
       ≡ outcome (found (h .«message_type_id») (h .«message_stream_id») (h .timestamp .value) (h .«message_length») (n + length (chunkBytes c))) decoder
       (sets buffer (got d c) (c .payload))
   pub at : At d h 0 0 decoder
 
-module _ {d : ChunkDeserializer} {c : Chunk} {h : ChunkHeader} (t : Taken d c h) (k : Fits h) (own : c .id ≡ h .«chunk_stream_id») where
+module _ {d : Decoder} {c : Chunk} {h : ChunkHeader} (t : Taken d c h) (k : Fits h) (own : c .id ≡ h .«chunk_stream_id») where
   left : Leaves d c
   left = leaves (t .takes)
 

@@ -12,10 +12,10 @@ use Rattle.chunk_header.specs.declared.ChunkHeaderFormat.the-variants.{Full, Ti
 use Rattle.chunk_header.specs.Layout.{Chunk, absent, present, HeaderFits}
 use Rattle.serializer.specs.Packet.{extended, messageHeader}
 use Rattle.chunk_header.specs.Limits.{maxField}
-use Rattle.deserializer.specs.declared.ChunkDeserializer.{ChunkDeserializer}
-use Rattle.chunk_meaning.specs.declared.Row.{Row}
-use Rattle.deserializer.specs.Chunk.{ExtendedFits, row, stored, says}
-use Rattle.deserializer.proofs.Taken.{Takes}
+use Rattle.decoding.specs.Decoder.{Decoder}
+use Rattle.chunk_meaning.specs.Stored.{Row}
+use Rattle.decoding.specs.Chunk.{ExtendedFits, row, stored, says}
+use Rattle.decoding.proofs.Taken.{Takes}
 use Rattle.byte_machine.specs.Rows.{find}
 use Rattle.byte_machine.proofs.RowLaws.{find-tells}
 use Rattle.round_trip.proofs.Held.{Held, held-row, held-there}
@@ -58,15 +58,15 @@ extended-fits field r e h = by-cases (ltb field maxField) refl
     by-cases false q = (omega (arith, e, ltb-false field maxField q), h)
 
 -- a chunk is taken, and leaves what the encoder remembers
-pub record Taken (d : ChunkDeserializer) (c : Chunk) (h : ChunkHeader) : Type 0 where
+pub record Taken (d : Decoder) (c : Chunk) (h : ChunkHeader) : Type 0 where
   pub takes : Takes d c
   pub stores : stored d c ≡ rowFor h
 
 -- what a stream's row says where one is held, and its id where none is
-pub row-held : (d : ChunkDeserializer) (c : Chunk) (r : Row) → Held (d .rows) (c .id) r → row d c ≡ r
+pub row-held : (d : Decoder) (c : Chunk) (r : Row) → Held (d .rows) (c .id) r → row d c ≡ r
 row-held d c r h = rw (held-there h) (held-row h)
 
-pub row-id : (d : ChunkDeserializer) (c : Chunk) → row d c .id ≡ c .id
+pub row-id : (d : Decoder) (c : Chunk) → row d c .id ≡ c .id
 row-id d c = by-cases (ltb (find (d .rows) (c .id)) 64) refl
   where
     by-cases : (t : Bool) → ltb (find (d .rows) (c .id)) 64 ≡ t → row d c .id ≡ c .id

@@ -6,7 +6,7 @@ use mathlib.Core.Path.{_≡_}
 use lib.Dec.{leb}
 use lib.ListN.{length, take}
 use Rattle.serializer.specs.Remembered.{fresh}
-use Rattle.deserializer.specs.Told.{between, maxRoom}
+use Rattle.decoding.specs.Told.{between, maxRoom}
 use Rattle.round_trip.specs.Demand3.{Begins, InRange, LeavesOutDroppable, Packet, Receiver, Sending, bytes, handed, kept, last, log, longest, offers, receiver}
 
 -- a packet's last byte is among the first n bytes

@@ -9,10 +9,10 @@ use Rattle.serializer.specs.Answer.{Answer as Written, wrote, refused as not-wr
 use Rattle.serializer.specs.Message.{message as to-encode}
 use Rattle.serializer.specs.Remembered.{fresh}
 use Rattle.serializer.specs.Serialize.{Outcome as Encoded, serialized, sizeBody, sizeChanged}
-use Rattle.deserializer.specs.declared.ChunkDeserializer.{ChunkDeserializer}
-use Rattle.deserializer.specs.Answer.{Listed, message as found, more, refused as not-read}
-use Rattle.deserializer.specs.Call.{Outcome as Decoded, next}
-use Rattle.deserializer.specs.Told.{Outcome as Told, Size, taken, refused as not-taken, between, made, maxRoom, outcome as telling, told}
+use Rattle.decoding.specs.Decoder.{Decoder}
+use Rattle.decoding.specs.Answer.{Listed, message as found, more, refused as not-read}
+use Rattle.decoding.specs.Call.{Outcome as Decoded, next}
+use Rattle.decoding.specs.Told.{Outcome as Told, Size, taken, refused as not-taken, between, made, maxRoom, outcome as telling, told}
 use Rattle.stream_meaning.specs.Stream.{Message}
 
 -- "any run of messages and chunk size changes": each call with its parameters and the output lent to it
@@ -96,7 +96,7 @@ longest (p ∷ ps) = max (length (p .message .payload)) (longest ps)
 
 -- the receiver: a decoder, the payload buffer lent to it each time, the bytes still unread, and what is to be told after each message
 pub record Receiver : Type 0 where
-  pub decoder : ChunkDeserializer
+  pub decoder : Decoder
   pub buffer : List ℕ
   pub unread : List ℕ
   pub tells : List Tell
@@ -116,7 +116,7 @@ pub data Note : Type 0 where
   refused : (number : ℕ) → Note
 
 -- "told each new size straight after its message"
-abbrev pub tellFirst : List Tell → ChunkDeserializer → Told
+abbrev pub tellFirst : List Tell → Decoder → Told
 tellFirst [] d = telling taken d
 tellFirst (nothing ∷ later) d = telling taken d
 tellFirst (new size ∷ later) d = told d size

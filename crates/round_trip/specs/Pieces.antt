@@ -3,7 +3,7 @@ use Prim.Native.Nat.{ℕ}
 use mathlib.Core.List.{List, [], _∷_, _++_, map}
 use mathlib.Core.Path.{_≡_}
 use lib.ListN.{length, drop}
-use Rattle.deserializer.specs.Answer.{used}
+use Rattle.decoding.specs.Answer.{used}
 use Rattle.round_trip.specs.Demand3.{Packet, Receiver, after, handed, last, log, offered}
 
 -- the numbers by which pieces are offered to a receiver

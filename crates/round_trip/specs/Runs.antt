@@ -4,7 +4,7 @@ use mathlib.Core.Bool.{true, false}
 use mathlib.Core.List.{List, [], _∷_, _++_, map}
 use lib.ListN.{length, set, replicate}
 use Rattle.serializer.specs.Remembered.{fresh}
-use Rattle.deserializer.specs.Told.{maxRoom}
+use Rattle.decoding.specs.Told.{maxRoom}
 use Rattle.stream_meaning.specs.Stream.{Message}
 use Rattle.round_trip.specs.Demand3.{
   Call,

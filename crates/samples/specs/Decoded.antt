@@ -2,10 +2,10 @@
 use Prim.Native.Nat.{ℕ}
 use mathlib.Core.List.{List, [], _∷_, _++_}
 use lib.ListN.{take, replicate}
-use Rattle.deserializer.specs.declared.ChunkDeserializer.{ChunkDeserializer}
-use Rattle.deserializer.specs.Answer.{Listed, message, more, refused}
-use Rattle.deserializer.specs.Call.{next}
-use Rattle.deserializer.specs.Told.{made}
+use Rattle.decoding.specs.Decoder.{Decoder}
+use Rattle.decoding.specs.Answer.{Listed, message, more, refused}
+use Rattle.decoding.specs.Call.{next}
+use Rattle.decoding.specs.Told.{made}
 
 -- type, stream, timestamp, length and bytes used of a message, then its payload; the numbers of any other answer
 abbrev values : Listed → List ℕ → List ℕ
@@ -13,7 +13,7 @@ values (message type stream time length used) payload = (type ∷ stream ∷ tim
 values (more used) payload = used ∷ []
 values (refused number used) payload = number ∷ used ∷ []
 
-abbrev last : ChunkDeserializer → List ℕ → List ℕ → List (List ℕ) → List ℕ
+abbrev last : Decoder → List ℕ → List ℕ → List (List ℕ) → List ℕ
 last d payload input [] = values (next d input payload .answer) (next d input payload .payload)
 last d payload input (piece ∷ rest) = last (next d input payload .deserializer) (next d input payload .payload) piece rest
 

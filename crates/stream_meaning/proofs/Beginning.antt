@@ -9,17 +9,17 @@ use lib.Dec.{eqb}
 use lib.ListN.{length, length-append, length-replicate, replicate}
 use borrow.Author.Tests.{eqb-false, eqb-true}
 use Rattle.chunk_header.specs.Layout.{Chunk, chunkBytes}
-use Rattle.deserializer.specs.declared.ChunkDeserializer.{ChunkDeserializer}
-use Rattle.deserializer.specs.Answer.{more}
-use Rattle.deserializer.specs.Call.{Outcome, next, run}
-use Rattle.deserializer.specs.Chunk.{ChunkFits, HeadFits as DecoderFits, basicRefused}
-use Rattle.deserializer.proofs.Accepts.{refuses-basic}
-use Rattle.deserializer.proofs.Covers.{Begins, Found, compared, covers, part, whole}
-use Rattle.deserializer.proofs.Cut.{refused-not-more}
-use Rattle.deserializer.proofs.Reached.{made-reaches}
-use Rattle.deserializer.proofs.ReadsBack.{basicOf, extendedOf, headOf}
-use Rattle.deserializer.proofs.Runs.{next-runs}
-use Rattle.deserializer.proofs.Taken.{chunk-some, id-some, parts}
+use Rattle.decoding.specs.Decoder.{Decoder}
+use Rattle.decoding.specs.Answer.{more}
+use Rattle.decoding.specs.Call.{Outcome, next, run}
+use Rattle.decoding.specs.Chunk.{ChunkFits, HeadFits as DecoderFits, basicRefused}
+use Rattle.decoding.proofs.Accepts.{refuses-basic}
+use Rattle.decoding.proofs.Covers.{Begins, Found, compared, covers, part, whole}
+use Rattle.decoding.proofs.Cut.{refused-not-more}
+use Rattle.decoding.proofs.Reached.{made-reaches}
+use Rattle.decoding.proofs.ReadsBack.{basicOf, extendedOf, headOf}
+use Rattle.decoding.proofs.Runs.{next-runs}
+use Rattle.decoding.proofs.Taken.{chunk-some, id-some, parts}
 use Rattle.chunk_header.specs.Limits.{initialSize}
 use Rattle.stream_meaning.specs.Connection.{quiet}
 use Rattle.stream_meaning.specs.Feeding.{BegunFrom, Sign}
@@ -28,7 +28,7 @@ use Rattle.stream_meaning.specs.View.{viewed}
 use Rattle.stream_meaning.proofs.Seeing.{head-seen, stream-fits}
 use Rattle.stream_meaning.proofs.Whole.{Whole}
 
-module _ {came : List Sign} {messages : List Message} {d : ChunkDeserializer} {buffer : List ℕ} (w : Whole came messages d buffer) (full : List ℕ) where
+module _ {came : List Sign} {messages : List Message} {d : Decoder} {buffer : List ℕ} (w : Whole came messages d buffer) (full : List ℕ) where
   abbrev filled : Chunk → Chunk
   filled c = record {
     form = c .form;
@@ -72,7 +72,7 @@ module _ {came : List Sign} {messages : List Message} {d : ChunkDeserializer} {b
       by-test true z = begun-by c b tail (stream-fits (record { reached = made-reaches (w .ready .by-calls); long = w .ready .long; form = fits .head .form; passes = eqb-true _ _ z }) fits) is
       by-test false z = by-begins (eqb-false _ _ z) (compared (basicOf c) full _ (b ∷ tail) (sym (parts c) ∙ is))
 
-pub begun-nothing : {came : List Sign} {messages : List Message} {d : ChunkDeserializer} {buffer : List ℕ} (w : Whole came messages d buffer) → BegunFrom initialSize quiet (w .items) []
+pub begun-nothing : {came : List Sign} {messages : List Message} {d : Decoder} {buffer : List ℕ} (w : Whole came messages d buffer) → BegunFrom initialSize quiet (w .items) []
 unfolding run
 begun-nothing {d = d} {buffer = buffer} w = by-begins (found .begins)
   where

@@ -9,17 +9,17 @@ use lib.Seq.{take-all, take-append-add}
 use Rattle.fields.specs.Endian.{Bytes}
 use Rattle.fields.proofs.Tests.{clash}
 use Rattle.chunk_header.specs.Limits.{initialSize}
-use Rattle.deserializer.specs.declared.ChunkDeserializer.{ChunkDeserializer}
-use Rattle.deserializer.specs.Answer.{Listed, message, more, refused, used}
-use Rattle.deserializer.specs.Call.{Outcome, next, outcome, run}
-use Rattle.deserializer.specs.Told.{between, taken as size-taken, told}
-use Rattle.deserializer.proofs.Covers.{bytes-append}
-use Rattle.deserializer.proofs.Cut.{feed-append, refused-not-more, shift}
-use Rattle.deserializer.proofs.Progress.{more-uses-all}
-use Rattle.deserializer.proofs.Runs.{next-runs}
-use Rattle.deserializer.proofs.Standing.{refused-not-message, run-stood}
-use Rattle.deserializer.proofs.Entries.{taken-sized}
-use Rattle.deserializer.proofs.Reached.{made-reaches}
+use Rattle.decoding.specs.Decoder.{Decoder}
+use Rattle.decoding.specs.Answer.{Listed, message, more, refused, used}
+use Rattle.decoding.specs.Call.{Outcome, next, outcome, run}
+use Rattle.decoding.specs.Told.{between, taken as size-taken, told}
+use Rattle.decoding.proofs.Covers.{bytes-append}
+use Rattle.decoding.proofs.Cut.{feed-append, refused-not-more, shift}
+use Rattle.decoding.proofs.Progress.{more-uses-all}
+use Rattle.decoding.proofs.Runs.{next-runs}
+use Rattle.decoding.proofs.Standing.{refused-not-message, run-stood}
+use Rattle.decoding.proofs.Entries.{taken-sized}
+use Rattle.decoding.proofs.Reached.{made-reaches}
 use Rattle.stream_meaning.specs.Connection.{quiet}
 use Rattle.stream_meaning.specs.Feeding.{Feeding, FeedingMeans, Reading, Sign, handed, new-size, opened, signs, sized, wanted}
 use Rattle.stream_meaning.specs.Stream.{Message}
@@ -45,7 +45,7 @@ not-refused-by m o h = by-answer (o .answer) refl
     by-answer (more n) e = rw e (λ number used z. refused-not-more (sym z))
     by-answer (refused k n) e = absurd (h k n e)
 
-module _ {came : List Sign} {messages : List Message} {d : ChunkDeserializer} {buffer : List ℕ} (a : Amid came messages d buffer) where
+module _ {came : List Sign} {messages : List Message} {d : Decoder} {buffer : List ℕ} (a : Amid came messages d buffer) where
   joined : (input : List ℕ) → next (a .decoder) (a .part-of ++ input) (a .held) ≡ shift (length (a .part-of)) (next d input buffer)
   joined input =
       let e : next (a .decoder) (a .part-of) (a .held) .answer ≡ more (length (a .part-of)) = ap (λ (o : Outcome). o .answer) (a .reads) in
@@ -90,13 +90,13 @@ leads-handed : (came : List Sign) (messages : List Message) (input : List ℕ) (
     → Amid (came ++ signs (take n input)) (messages ++ (record { type = type; stream = stream; time = time; payload = take long (o .payload) } ∷ [])) (o .deserializer) (o .payload)
 leads-handed came messages input o type stream time long n e r = rw e at r
 
-amid-wanted : {came : List Sign} {messages : List Message} {d : ChunkDeserializer} {buffer : List ℕ} → Amid came messages d buffer → (input : List ℕ) → Bytes input → (n : ℕ)
+amid-wanted : {came : List Sign} {messages : List Message} {d : Decoder} {buffer : List ℕ} → Amid came messages d buffer → (input : List ℕ) → Bytes input → (n : ℕ)
     → next d input buffer .answer ≡ more n
     → Amid (came ++ signs input) messages (next d input buffer .deserializer) (next d input buffer .payload)
 amid-wanted {came} {messages} {d} {buffer} a input bytes n e =
     leads-wanted came messages input (next d input buffer) n e (more-uses-all d input buffer n e) (call-leads a input bytes (λ k u z. refused-not-more (sym z ∙ e)))
 
-amid-handed : {came : List Sign} {messages : List Message} {d : ChunkDeserializer} {buffer : List ℕ} → Amid came messages d buffer → (input : List ℕ) → Bytes input
+amid-handed : {came : List Sign} {messages : List Message} {d : Decoder} {buffer : List ℕ} → Amid came messages d buffer → (input : List ℕ) → Bytes input
     → (type stream time long n : ℕ)
     → next d input buffer .answer ≡ message type stream time long n
     → Amid (came ++ signs (take n input)) (messages ++ (record { type = type; stream = stream; time = time; payload = take long (next d input buffer .payload) } ∷ []))
@@ -104,17 +104,17 @@ amid-handed : {came : List Sign} {messages : List Message} {d : ChunkDeserialize
 amid-handed {came} {messages} {d} {buffer} a input bytes type stream time long n e =
     leads-handed came messages input (next d input buffer) type stream time long n e (call-leads a input bytes (λ k u z. refused-not-message (sym z ∙ e)))
 
-amid-sized : {came : List Sign} {messages : List Message} {d : ChunkDeserializer} {buffer : List ℕ} → Amid came messages d buffer → (new : ℕ) → told d new .answer ≡ size-taken
+amid-sized : {came : List Sign} {messages : List Message} {d : Decoder} {buffer : List ℕ} → Amid came messages d buffer → (new : ℕ) → told d new .answer ≡ size-taken
     → Amid (came ++ (new-size new ∷ [])) messages (told d new .deserializer) buffer
 amid-sized {d = d} a new e = let t = taken-sized d new e in amid-start (whole-sized (at-boundary a (t .between-messages)) new (t .after))
 
-pub feeding-amid : {came : List Sign} {messages : List Message} {d : ChunkDeserializer} {buffer : List ℕ} → Feeding came messages d buffer → Amid came messages d buffer
+pub feeding-amid : {came : List Sign} {messages : List Message} {d : Decoder} {buffer : List ℕ} → Feeding came messages d buffer → Amid came messages d buffer
 feeding-amid (opened room buffer e l) = amid-start (whole-fresh room buffer e l)
 feeding-amid (wanted s input bytes n e) = amid-wanted (feeding-amid s) input bytes n e
 feeding-amid (handed s input bytes type stream time long n e) = amid-handed (feeding-amid s) input bytes type stream time long n e
 feeding-amid (sized s new e) = amid-sized (feeding-amid s) new e
 
-abbrev pub amid-reading : {came : List Sign} {messages : List Message} {d : ChunkDeserializer} {buffer : List ℕ} → Amid came messages d buffer → Reading initialSize quiet came
+abbrev pub amid-reading : {came : List Sign} {messages : List Message} {d : Decoder} {buffer : List ℕ} → Amid came messages d buffer → Reading initialSize quiet came
 amid-reading a = record {
   items = a .at-start .items;
   part = a .part-of;

@@ -11,14 +11,14 @@ use lib.ListN.{length, length-append, take}
 use lib.Seq.{length-take-le}
 use borrow.Author.Tests.{eq-eqb, eqb-false, eqb-true, ne-eqb}
 use Rattle.chunk_header.specs.Layout.{Chunk, Extended, FormFits, Header, absent, present, type0, type1, type2, type3}
-use Rattle.chunk_meaning.specs.declared.Row.{Row}
+use Rattle.chunk_meaning.specs.Stored.{Row}
 use Rattle.chunk_meaning.specs.Meaning.{firstTime}
 use Rattle.byte_machine.specs.Rows.{find}
-use Rattle.deserializer.specs.declared.ChunkDeserializer.{ChunkDeserializer}
-use Rattle.deserializer.specs.Chunk.{ChunkFits, ExtendedFits, HeadFits as DecoderFits, basicRefused, carried, formatFor, got, header, row, says, stored}
-use Rattle.deserializer.proofs.Accepts.{own-stream}
-use Rattle.deserializer.proofs.Reached.{Reached}
-use Rattle.deserializer.proofs.Taken.{id-some}
+use Rattle.decoding.specs.Decoder.{Decoder}
+use Rattle.decoding.specs.Chunk.{ChunkFits, ExtendedFits, HeadFits as DecoderFits, basicRefused, carried, formatFor, got, header, row, says, stored}
+use Rattle.decoding.proofs.Accepts.{own-stream}
+use Rattle.decoding.proofs.Reached.{Reached}
+use Rattle.decoding.proofs.Taken.{id-some}
 use Rattle.stream_meaning.specs.Stream.{Fits, HeadFits, Stream, ThereWhere, before, carries, clock, earlier, number, payload, said, saying, time}
 use Rattle.stream_meaning.specs.View.{saidIn, viewed}
 
@@ -48,7 +48,7 @@ fits-there absent r h = h
 fits-there (present time) r h = h
 
 -- what a head says
-module _ (d : ChunkDeserializer) (buffer : List ℕ) (c : Chunk) where
+module _ (d : Decoder) (buffer : List ℕ) (c : Chunk) where
   pub before-is : before (viewed d buffer (c .id)) c ≡ saidIn (row d c)
   before-is = by-row (ltb (find (d .rows) (c .id)) 64) refl
     where
@@ -66,13 +66,13 @@ module _ (d : ChunkDeserializer) (buffer : List ℕ) (c : Chunk) where
   head-seen f = record { form = f .form; fields = f .fields; extended = rw saying-is (fits-there (c .extended) (header d c) (f .extended)) }
 
 -- a chunk whose basic header is not refused
-pub record Named (d : ChunkDeserializer) (buffer : List ℕ) (c : Chunk) : Type 0 where
+pub record Named (d : Decoder) (buffer : List ℕ) (c : Chunk) : Type 0 where
   pub reached : Reached d
   pub long : d .room ≤ length buffer
   pub form : FormFits (c .form) (c .id)
   pub passes : basicRefused d c ≡ 0
 
-module _ {d : ChunkDeserializer} {buffer : List ℕ} {c : Chunk} (h : Named d buffer c) where
+module _ {d : Decoder} {buffer : List ℕ} {c : Chunk} (h : Named d buffer c) where
   abbrev s : Stream
   s = viewed d buffer (c .id)
 

@@ -15,16 +15,16 @@ use Rattle.fields.specs.Cases.{among}
 use Rattle.fields.proofs.Lists.{sets-front}
 use Rattle.chunk_header.specs.Layout.{Chunk, chunkBytes}
 use Rattle.byte_machine.proofs.Putting.{Lists}
-use Rattle.deserializer.specs.declared.ChunkDeserializer.{ChunkDeserializer}
-use Rattle.deserializer.specs.Answer.{Listed, message, more}
-use Rattle.deserializer.specs.Call.{Outcome, after, outcome, run}
-use Rattle.deserializer.specs.Calls.{Ready, after-call}
-use Rattle.deserializer.specs.Chunk.{ChunkFits, HeadFits as DecoderFits, basicRefused, got, header, headerRefused, stored}
-use Rattle.deserializer.proofs.Accepts.{refuses-basic, refuses-header}
-use Rattle.deserializer.proofs.Reached.{made-reaches}
-use Rattle.deserializer.proofs.ReadsBack.{basicOf, extendedOf, headOf}
-use Rattle.deserializer.proofs.Runs.{next-runs}
-use Rattle.deserializer.proofs.Taken.{Takes, done, ends-within, goes, goes-on, hands-out, id-some, its-own, leaves, parts, taking}
+use Rattle.decoding.specs.Decoder.{Decoder}
+use Rattle.decoding.specs.Answer.{Listed, message, more}
+use Rattle.decoding.specs.Call.{Outcome, after, outcome, run}
+use Rattle.decoding.specs.Calls.{Ready, after-call}
+use Rattle.decoding.specs.Chunk.{ChunkFits, HeadFits as DecoderFits, basicRefused, got, header, headerRefused, stored}
+use Rattle.decoding.proofs.Accepts.{refuses-basic, refuses-header}
+use Rattle.decoding.proofs.Reached.{made-reaches}
+use Rattle.decoding.proofs.ReadsBack.{basicOf, extendedOf, headOf}
+use Rattle.decoding.proofs.Runs.{next-runs}
+use Rattle.decoding.proofs.Taken.{Takes, done, ends-within, goes, goes-on, hands-out, id-some, its-own, leaves, parts, taking}
 use Rattle.stream_meaning.specs.Stream.{Fits, Said, Stream, hands, lacks, payload, saying, takes, time}
 use Rattle.stream_meaning.specs.Taking.{Answers, NotRefused, OwnStream, Took, fed}
 use Rattle.stream_meaning.specs.View.{saidIn, viewed}
@@ -34,7 +34,7 @@ pub streams-same : {a b : Option Said} {x y : Option (List ℕ)} → a ≡ b →
 streams-same e f = rw (e, f)
 
 -- a call that refuses nothing finds neither header refused
-module _ {d : ChunkDeserializer} {buffer : List ℕ} (c : Chunk) (r : Ready d buffer) (head : DecoderFits d c) (h : NotRefused (fed d buffer c .answer)) where
+module _ {d : Decoder} {buffer : List ℕ} (c : Chunk) (r : Ready d buffer) (head : DecoderFits d c) (h : NotRefused (fed d buffer c .answer)) where
   answer-is : fed d buffer c .answer ≡ run (basicOf c ++ (headOf c ++ (extendedOf c ++ c .payload))) d buffer 0 .answer
   answer-is =
       ap (λ (o : Outcome). o .answer) (next-runs d (chunkBytes c) buffer (r .open-still) (r .long) ∙ ap (λ (l : List ℕ). run l d buffer 0) (parts c))
@@ -62,7 +62,7 @@ module _ {d : ChunkDeserializer} {buffer : List ℕ} (c : Chunk) (r : Ready d bu
   is-taken fits = record { reached = made-reaches (r .by-calls); between = r .between-chunks; fits = fits; basic = basic-taken; head = head-taken }
 
 -- a chunk that is taken
-module _ {d : ChunkDeserializer} {buffer : List ℕ} {c : Chunk} (r : Ready d buffer) (h : Named d buffer c) (t : Takes d c) where
+module _ {d : Decoder} {buffer : List ℕ} {c : Chunk} (r : Ready d buffer) (h : Named d buffer c) (t : Takes d c) where
   abbrev s : Stream
   s = viewed d buffer (c .id)
 
@@ -185,12 +185,12 @@ own-stream d buffer c r fits h =
     took r named (is-taken c r head h (chunk-fits named fits))
 
 -- a chunk that fits the decoder and is not refused fits its stream
-pub fits-stream : (d : ChunkDeserializer) (buffer : List ℕ) (c : Chunk) → Ready d buffer → ChunkFits d c → NotRefused (fed d buffer c .answer)
+pub fits-stream : (d : Decoder) (buffer : List ℕ) (c : Chunk) → Ready d buffer → ChunkFits d c → NotRefused (fed d buffer c .answer)
     → Fits (d .«max_chunk_size») (viewed d buffer (c .id)) c
 fits-stream d buffer c r fits h = stream-fits (is-named c r (fits .head) h) fits
 
 -- and the ids stand in the table in the order in which they came
-pub lists-after : (d : ChunkDeserializer) (buffer : List ℕ) (c : Chunk) (r : Ready d buffer) → Fits (d .«max_chunk_size») (viewed d buffer (c .id)) c
+pub lists-after : (d : Decoder) (buffer : List ℕ) (c : Chunk) (r : Ready d buffer) → Fits (d .«max_chunk_size») (viewed d buffer (c .id)) c
     → NotRefused (fed d buffer c .answer)
     → {ids : List ℕ}
     → Lists (d .rows) ids

@@ -10,7 +10,7 @@ use lib.ListN.{length}
 use Rattle.fields.specs.Endian.{bigEndian, littleEndian, number}
 use Rattle.fields.proofs.Endian.{length-big, number-big}
 use Rattle.chunk_header.specs.Layout.{Chunk, Extended, Form, FormFits, Header, HeaderFits, absent, basicBytes, chunkBytes, extendedBytes, format, headerBytes, one, present, three, two, type0, type1, type2, type3}
-use Rattle.deserializer.proofs.Covers.{heads, tails}
+use Rattle.decoding.proofs.Covers.{heads, tails}
 use Rattle.stream_meaning.specs.Reading.{OneChunk}
 use Rattle.stream_meaning.specs.Stream.{Stream, ThereWhere, carries, said}
 

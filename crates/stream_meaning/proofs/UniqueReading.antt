@@ -6,7 +6,7 @@ use native.Mathlib.Omega.{arith}
 use lib.ListN.{length}
 use Rattle.chunk_header.specs.Layout.{Chunk, absent, chunkBytes, one, type0}
 use Rattle.chunk_header.specs.Limits.{initialSize}
-use Rattle.deserializer.proofs.Taken.{chunk-some}
+use Rattle.decoding.proofs.Taken.{chunk-some}
 use Rattle.stream_meaning.specs.Connection.{FitFrom, Item, chunk, meansFrom, quiet, size, taken}
 use Rattle.stream_meaning.specs.Feeding.{BegunFrom, Feeding, ProperPart, Sign, byte, new-size, signs, signsOf}
 use Rattle.stream_meaning.specs.Reading.{CameDecides, MeansFed, MeansFedPart, ReadsOneWay}

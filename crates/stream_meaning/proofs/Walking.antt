@@ -10,15 +10,15 @@ use lib.Seq.{drop-append-seam, take-append-add, take-append-seam}
 use Rattle.fields.specs.Endian.{Bytes}
 use Rattle.fields.proofs.Lists.{bytes-drop}
 use Rattle.chunk_header.specs.Layout.{Chunk, chunkBytes}
-use Rattle.deserializer.specs.declared.ChunkDeserializer.{ChunkDeserializer}
-use Rattle.deserializer.specs.Answer.{Listed, message, more, refused, used}
-use Rattle.deserializer.specs.Call.{Outcome, next, outcome, run}
-use Rattle.deserializer.specs.Chunk.{ChunkFits}
-use Rattle.deserializer.proofs.Covers.{Begins, Found, covers, part, whole}
-use Rattle.deserializer.proofs.Cut.{feed-answered, feed-append, message-not-more, refused-not-more, shift}
-use Rattle.deserializer.proofs.Progress.{more-uses-all, run-uses}
-use Rattle.deserializer.proofs.Runs.{next-runs}
-use Rattle.deserializer.proofs.Taken.{chunk-some}
+use Rattle.decoding.specs.Decoder.{Decoder}
+use Rattle.decoding.specs.Answer.{Listed, message, more, refused, used}
+use Rattle.decoding.specs.Call.{Outcome, next, outcome, run}
+use Rattle.decoding.specs.Chunk.{ChunkFits}
+use Rattle.decoding.proofs.Covers.{Begins, Found, covers, part, whole}
+use Rattle.decoding.proofs.Cut.{feed-answered, feed-append, message-not-more, refused-not-more, shift}
+use Rattle.decoding.proofs.Progress.{more-uses-all, run-uses}
+use Rattle.decoding.proofs.Runs.{next-runs}
+use Rattle.decoding.proofs.Taken.{chunk-some}
 use Rattle.chunk_header.specs.Limits.{initialSize}
 use Rattle.stream_meaning.specs.Connection.{quiet}
 use Rattle.stream_meaning.specs.Feeding.{BegunFrom, Sign, signs}
@@ -31,9 +31,9 @@ use Rattle.stream_meaning.proofs.Taking.{fits-stream}
 use Rattle.stream_meaning.proofs.Whole.{Whole, its-took, whole-then}
 
 -- a decoder to which a part of a chunk has come after items
-pub record Amid (came : List Sign) (messages : List Message) (d : ChunkDeserializer) (buffer : List ℕ) : Type 0 where
+pub record Amid (came : List Sign) (messages : List Message) (d : Decoder) (buffer : List ℕ) : Type 0 where
   pub before : List Sign
-  pub decoder : ChunkDeserializer
+  pub decoder : Decoder
   pub held : List ℕ
   pub at-start : Whole before messages decoder held
   pub part-of : List ℕ
@@ -42,7 +42,7 @@ pub record Amid (came : List Sign) (messages : List Message) (d : ChunkDeseriali
   pub came-is : came ≡ before ++ signs part-of
   pub begun : BegunFrom initialSize quiet (at-start .items) part-of
 
-pub amid-start : {came : List Sign} {messages : List Message} {d : ChunkDeserializer} {buffer : List ℕ} → Whole came messages d buffer → Amid came messages d buffer
+pub amid-start : {came : List Sign} {messages : List Message} {d : Decoder} {buffer : List ℕ} → Whole came messages d buffer → Amid came messages d buffer
 unfolding run
 amid-start {came} {messages} {d} {buffer} w = record {
   before = came;
@@ -108,7 +108,7 @@ leads-message came messages a b one-chunk o e f l = rw (f, e, take-append-seam a
 bytes-after : (xs ys : List ℕ) → Bytes (xs ++ ys) → Bytes ys
 bytes-after xs ys h = rw (drop-append-seam xs ys) at (bytes-drop (length xs) (xs ++ ys) h)
 
-module _ {came : List Sign} {messages : List Message} {d : ChunkDeserializer} {buffer : List ℕ} (w : Whole came messages d buffer) where
+module _ {came : List Sign} {messages : List Message} {d : Decoder} {buffer : List ℕ} (w : Whole came messages d buffer) where
   -- a part of a chunk: more is wanted, as a message ends no earlier than its last chunk
   not-early : (c : Chunk) (full : List ℕ) (b : ℕ) (tail : List ℕ) → ChunkFits d c → chunkBytes c ≡ full ++ (b ∷ tail) → NotRefused (next d full buffer .answer)
       → ((m : ℕ) → next d full buffer .answer ≢ more m) → ⊥
@@ -187,7 +187,7 @@ module _ {came : List Sign} {messages : List Message} {d : ChunkDeserializer} {b
     leads-whole later (refused number n) e = absurd (not-refused number n e)
 
 -- so any bytes lead somewhere, as each chunk has a byte
-walk-within : (most : ℕ) (full : List ℕ) → length full < most → (came : List Sign) (messages : List Message) (d : ChunkDeserializer) (buffer : List ℕ)
+walk-within : (most : ℕ) (full : List ℕ) → length full < most → (came : List Sign) (messages : List Message) (d : Decoder) (buffer : List ℕ)
     → Whole came messages d buffer
     → Bytes full
     → NotRefused (next d full buffer .answer)
@@ -209,7 +209,7 @@ walk-within (suc most) full short came messages d buffer w bytes quiet-call =
     by-begins (part b tail is) later = leads-part w (found .chunk) full b tail bytes (found .fits) is quiet-call
     by-begins (whole rest is) later = rw is (leads-whole w (found .chunk) rest (found .fits) (rw is at quiet-call) (later (found .chunk) rest is (found .fits)) (fed d buffer (found .chunk) .answer) refl)
 
-pub walk : (full : List ℕ) (came : List Sign) (messages : List Message) (d : ChunkDeserializer) (buffer : List ℕ) → Whole came messages d buffer → Bytes full
+pub walk : (full : List ℕ) (came : List Sign) (messages : List Message) (d : Decoder) (buffer : List ℕ) → Whole came messages d buffer → Bytes full
     → NotRefused (next d full buffer .answer)
     → Leads came messages full (next d full buffer)
 walk full = walk-within (suc (length full)) full (omega arith)

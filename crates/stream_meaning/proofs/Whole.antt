@@ -14,12 +14,12 @@ use Rattle.chunk_header.specs.Limits.{initialSize}
 use Rattle.byte_machine.specs.Rows.{find}
 use Rattle.byte_machine.proofs.Putting.{Lists}
 use Rattle.byte_machine.proofs.RowLaws.{find-tells}
-use Rattle.deserializer.specs.declared.ChunkDeserializer.{ChunkDeserializer}
-use Rattle.deserializer.specs.Call.{Outcome}
-use Rattle.deserializer.specs.Calls.{Ready, after-size, by-new}
-use Rattle.deserializer.specs.Told.{made, sized, taken as size-taken, told}
-use Rattle.deserializer.proofs.Entries.{made-fresh}
-use Rattle.deserializer.proofs.Taken.{id-some}
+use Rattle.decoding.specs.Decoder.{Decoder}
+use Rattle.decoding.specs.Call.{Outcome}
+use Rattle.decoding.specs.Calls.{Ready, after-size, by-new}
+use Rattle.decoding.specs.Told.{made, sized, taken as size-taken, told}
+use Rattle.decoding.proofs.Entries.{made-fresh}
+use Rattle.decoding.proofs.Taken.{id-some}
 use Rattle.stream_meaning.specs.Connection.{AllFit, Item, chunk, listed, means, opened, quiet, size, sizeFrom, streams, taken}
 use Rattle.stream_meaning.specs.Feeding.{Sign, new-size, signs, signsOf}
 use Rattle.stream_meaning.specs.Said.{saidOn}
@@ -30,10 +30,10 @@ use Rattle.stream_meaning.proofs.Connecting.{fit-append, means-append, 
 use Rattle.stream_meaning.proofs.Taking.{lists-after, own-stream, streams-same}
 
 -- a decoder that sees the streams
-abbrev pub Sees : ChunkDeserializer → (buffer : List ℕ) → (ℕ → Stream) → Type 0
+abbrev pub Sees : Decoder → (buffer : List ℕ) → (ℕ → Stream) → Type 0
 Sees d buffer streams = (id : ℕ) → id ≢ 0 → viewed d buffer id ≡ streams id
 
-pub record Whole (came : List Sign) (messages : List Message) (d : ChunkDeserializer) (buffer : List ℕ) : Type 0 where
+pub record Whole (came : List Sign) (messages : List Message) (d : Decoder) (buffer : List ℕ) : Type 0 where
   pub items : List Item
   pub ready : Ready d buffer
   pub sees : Sees d buffer (streams items)
@@ -50,7 +50,7 @@ answers-listed none used o e = rw e
 answers-listed (some m) used o e = rw (e .0, e .1)
 
 -- after a chunk the decoder sees what the chunk makes of the streams, and no length is over the room
-sees-after : {d : ChunkDeserializer} {buffer : List ℕ} {streams : ℕ → Stream} (c : Chunk) (o : Outcome) → c .id ≢ 0 → Sees d buffer streams → Took d buffer c o
+sees-after : {d : Decoder} {buffer : List ℕ} {streams : ℕ → Stream} (c : Chunk) (o : Outcome) → c .id ≢ 0 → Sees d buffer streams → Took d buffer c o
     → Sees (o .deserializer) (o .payload) (taken streams c)
 sees-after {d} {buffer} {streams} c o n sees t id z = by-id (eqb id (c .id)) refl
   where
@@ -67,7 +67,7 @@ room-after streams c room new h id = by-id (eqb id (c .id))
     by-id false = h id
 
 -- a chunk that is not refused
-module _ {came : List Sign} {messages : List Message} {d : ChunkDeserializer} {buffer : List ℕ} (w : Whole came messages d buffer) (c : Chunk)
+module _ {came : List Sign} {messages : List Message} {d : Decoder} {buffer : List ℕ} (w : Whole came messages d buffer) (c : Chunk)
     (fits : Fits (d .«max_chunk_size») (viewed d buffer (c .id)) c) (h : NotRefused (fed d buffer c .answer)) where
   n : c .id ≢ 0
   n = id-some (c .form) (c .id) (fits .head .form)
@@ -108,7 +108,7 @@ module _ {came : List Sign} {messages : List Message} {d : ChunkDeserializer} {b
       }
 
 -- a size that is taken
-pub whole-sized : {came : List Sign} {messages : List Message} {d : ChunkDeserializer} {buffer : List ℕ} → Whole came messages d buffer → (new : ℕ)
+pub whole-sized : {came : List Sign} {messages : List Message} {d : Decoder} {buffer : List ℕ} → Whole came messages d buffer → (new : ℕ)
     → told d new .deserializer ≡ sized d new
     → Whole (came ++ (new-size new ∷ [])) messages (told d new .deserializer) buffer
 whole-sized {came} {messages} {d} {buffer} w new e = record {

@@ -9,24 +9,20 @@ use lib.Dec.{eqb, ltb}
 use lib.ListN.{length, set}
 use lib.Seq.{sets}
 use borrow.Author.Tests.{eqb-false, ne-eqb}
-use Rattle.byte_machine.specs.declared.reader.Event.{Event}
-use Rattle.byte_machine.specs.declared.reader.Event.the-variants.{Go, Chunk, Message, Refuse}
-use Rattle.byte_machine.specs.declared.reader.Reader.{Reader}
-use Rattle.byte_machine.specs.declared.reader.Stepped.{Stepped}
+use Rattle.byte_machine.specs.Reader.{Event, Go, Chunk, Message, Refuse, Reader, Stepped, comeOf, inPayload}
 use Rattle.byte_machine.specs.Header.{opens}
 use Rattle.byte_machine.specs.Payload.{landed}
-use Rattle.byte_machine.specs.Reader.{comeOf, inPayload}
 use Rattle.byte_machine.proofs.Everywhere.{Amid, header-step}
 use Rattle.byte_machine.proofs.Passing.{either}
-use Rattle.deserializer.specs.declared.ChunkDeserializer.{ChunkDeserializer}
-use Rattle.deserializer.specs.Answer.{more}
-use Rattle.deserializer.specs.Call.{Outcome, after, end, isRefusal, run, stepOf, writes}
+use Rattle.decoding.specs.Decoder.{Decoder}
+use Rattle.decoding.specs.Answer.{more}
+use Rattle.decoding.specs.Call.{Outcome, after, end, isRefusal, run, stepOf, writes}
 use Rattle.stream_meaning.specs.Writing.{OfParts, WritesExactly, due, payloadIn, placeIn, unlessAnswered}
-use Rattle.deserializer.proofs.Cut.{has-run, message-not-more, refused-not-more}
-use Rattle.deserializer.proofs.Fitting.{paying-pays}
-use Rattle.deserializer.proofs.Reached.{Reached, made-reaches, step-reached}
-use Rattle.deserializer.proofs.Runs.{next-runs}
-use Rattle.deserializer.proofs.Sound.{in-payload-past}
+use Rattle.decoding.proofs.Cut.{has-run, message-not-more, refused-not-more}
+use Rattle.decoding.proofs.Fitting.{paying-pays}
+use Rattle.decoding.proofs.Reached.{Reached, made-reaches, step-reached}
+use Rattle.decoding.proofs.Runs.{next-runs}
+use Rattle.decoding.proofs.Sound.{in-payload-past}
 
 -- where a byte leaves the reader, unless it is answered
 abbrev Stays : ℕ → Event → Reader → Type 0
@@ -54,7 +50,7 @@ landed-at r p n =
     either P (eqb (r .chunk .left - 1) 0) (either P (ltb (r .message .got + 1) (r .chunk .header .«message_length»)) pause tt) on
 
 -- a byte of a decoder that calls can make: what it stores, and where it leaves the reader
-module _ (d : ChunkDeserializer) (b : ℕ) (k : Reached d) where
+module _ (d : Decoder) (b : ℕ) (k : Reached d) where
   payload-step : inPayload (d .reader .stage) ≡ true → (buffer : List ℕ) → (writes d buffer b ≡ set buffer (d .reader .message .got) b) × At (d .reader .message .got + 1) (stepOf d b)
   unfolding writes stepOf
   payload-step e buffer =
@@ -72,7 +68,7 @@ module _ (d : ChunkDeserializer) (b : ℕ) (k : Reached d) where
       )
 
 -- a byte, and those after it
-then-writes : (e : Event) (r : Reader) (d : ChunkDeserializer) (buffer : List ℕ) (n p : ℕ) (later : List ℕ) (o : Outcome) → Stays p e r
+then-writes : (e : Event) (r : Reader) (d : Decoder) (buffer : List ℕ) (n p : ℕ) (later : List ℕ) (o : Outcome) → Stays p e r
     → (isRefusal e ≡ false → placeIn r ≡ p → o .payload ≡ sets buffer p later)
     → end e d buffer n o .payload ≡ sets buffer p (unlessAnswered e later)
 then-writes Go r d buffer n p later o s h = h refl s
@@ -80,7 +76,7 @@ then-writes Chunk r d buffer n p later o s h = h refl s
 then-writes Message r d buffer n p later o s h = refl
 then-writes (Refuse k) r d buffer n p later o s h = refl
 
-module _ (x : ℕ) (d : ChunkDeserializer) (buffer : List ℕ) (n : ℕ) (k : Reached d) (later : List ℕ) (o : Outcome)
+module _ (x : ℕ) (d : Decoder) (buffer : List ℕ) (n : ℕ) (k : Reached d) (later : List ℕ) (o : Outcome)
     (rest : o .payload ≡ sets (writes d buffer x) (placeIn (after d (stepOf d x) .reader)) later) where
   abbrev s : Stepped
   s = stepOf d x
@@ -102,14 +98,14 @@ module _ (x : ℕ) (d : ChunkDeserializer) (buffer : List ℕ) (n : ℕ) (k : Re
           on-from (d .reader .message .got + 1) (w .1) ∙ (rw (w .0, e, one-on))
       by-stage false e = let w = header-byte d x k e buffer in on-from (comeOf (d .reader .message)) (w .1) ∙ (rw (w .0, e))
 
-pub run-writes : (a : List ℕ) (d : ChunkDeserializer) (buffer : List ℕ) (n : ℕ) → Reached d → run a d buffer n .payload ≡ sets buffer (placeIn (d .reader)) (payloadIn a d)
+pub run-writes : (a : List ℕ) (d : Decoder) (buffer : List ℕ) (n : ℕ) → Reached d → run a d buffer n .payload ≡ sets buffer (placeIn (d .reader)) (payloadIn a d)
 unfolding run payloadIn
 run-writes [] d buffer n k = refl
 run-writes (x ∷ a) d buffer n k =
     byte-writes x d buffer n k (payloadIn a (after d (stepOf d x))) _ (run-writes a (after d (stepOf d x)) (writes d buffer x) (n + 1) (step-reached d x k))
 
 -- and the run ends within the room
-place-within : (d : ChunkDeserializer) → Reached d → placeIn (d .reader) ≤ d .room
+place-within : (d : Decoder) → Reached d → placeIn (d .reader) ≤ d .room
 place-within d k = by-stage (inPayload (d .reader .stage)) refl (eqb (d .reader .message .id) 0) refl
   where
     by-stage : (t : Bool) → inPayload (d .reader .stage) ≡ t → (u : Bool) → eqb (d .reader .message .id) 0 ≡ u → placeIn (d .reader) ≤ d .room
@@ -124,7 +120,7 @@ then-within Chunk r p room later s h k = rw (← s) (k refl)
 then-within Message r p room later s h k = omega (arith, h)
 then-within (Refuse j) r p room later s h k = omega (arith, h)
 
-module _ (x : ℕ) (d : ChunkDeserializer) (k : Reached d) (later : List ℕ) where
+module _ (x : ℕ) (d : Decoder) (k : Reached d) (later : List ℕ) where
   abbrev first : Stepped
   first = stepOf d x
 
@@ -143,15 +139,15 @@ module _ (x : ℕ) (d : ChunkDeserializer) (k : Reached d) (later : List ℕ) wh
           let h : comeOf (d .reader .message) ≤ d .room = rw e at (place-within d k) in
           rw e (then-within (first .event) (first .reader) (comeOf (d .reader .message)) (d .room) later (w .1) h rest)
 
-reader-on : (d : ChunkDeserializer) (s : Stepped) → isRefusal (s .event) ≡ false → placeIn (after d s .reader) ≡ placeIn (s .reader)
+reader-on : (d : Decoder) (s : Stepped) → isRefusal (s .event) ≡ false → placeIn (after d s .reader) ≡ placeIn (s .reader)
 unfolding after
 reader-on d s e = rw e
 
-same-room : (d : ChunkDeserializer) (s : Stepped) → after d s .room ≡ d .room
+same-room : (d : Decoder) (s : Stepped) → after d s .room ≡ d .room
 unfolding after
 same-room d s = refl
 
-run-within : (a : List ℕ) (d : ChunkDeserializer) → Reached d → placeIn (d .reader) + length (payloadIn a d) ≤ d .room
+run-within : (a : List ℕ) (d : Decoder) → Reached d → placeIn (d .reader) + length (payloadIn a d) ≤ d .room
 unfolding payloadIn
 run-within [] d k = let p = place-within d k in omega (arith, p)
 run-within (x ∷ a) d k =
@@ -166,7 +162,7 @@ writes-exactly d m input buffer o long = record {
 }
 
 -- bytes cut in two
-then-parts : (e : Event) (d : ChunkDeserializer) (buffer : List ℕ) (n m : ℕ) (o : Outcome) (first both : List ℕ) (result : ChunkDeserializer → List ℕ)
+then-parts : (e : Event) (d : Decoder) (buffer : List ℕ) (n m : ℕ) (o : Outcome) (first both : List ℕ) (result : Decoder → List ℕ)
     → (o .answer ≡ more m → both ≡ first ++ result (o .deserializer))
     → end e d buffer n o .answer ≡ more m
     → unlessAnswered e both ≡ unlessAnswered e first ++ result (end e d buffer n o .deserializer)
@@ -175,7 +171,7 @@ then-parts Chunk d buffer n m o first both result h e = h e
 then-parts Message d buffer n m o first both result h e = message-not-more e
 then-parts (Refuse k) d buffer n m o first both result h e = refused-not-more e
 
-run-parts : (a b : List ℕ) (d : ChunkDeserializer) (buffer : List ℕ) (n m : ℕ) → run a d buffer n .answer ≡ more m
+run-parts : (a b : List ℕ) (d : Decoder) (buffer : List ℕ) (n m : ℕ) → run a d buffer n .answer ≡ more m
     → payloadIn (a ++ b) d ≡ payloadIn a d ++ payloadIn b (run a d buffer n .deserializer)
 unfolding run payloadIn
 run-parts [] b d buffer n m e = refl

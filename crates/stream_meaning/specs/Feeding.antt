@@ -6,10 +6,10 @@ use lib.ListN.{length, take}
 use Rattle.fields.specs.Endian.{Bytes}
 use Rattle.chunk_header.specs.Layout.{Chunk, chunkBytes}
 use Rattle.chunk_header.specs.Limits.{initialSize}
-use Rattle.deserializer.specs.declared.ChunkDeserializer.{ChunkDeserializer}
-use Rattle.deserializer.specs.Answer.{message, more}
-use Rattle.deserializer.specs.Call.{next}
-use Rattle.deserializer.specs.Told.{made, taken, told}
+use Rattle.decoding.specs.Decoder.{Decoder}
+use Rattle.decoding.specs.Answer.{message, more}
+use Rattle.decoding.specs.Call.{next}
+use Rattle.decoding.specs.Told.{made, taken, told}
 use Rattle.stream_meaning.specs.Connection.{FitFrom, Item, chunk, means, quiet, size, sizeFrom, streamsFrom}
 use Rattle.stream_meaning.specs.Stream.{Fits, Message, Stream}
 
@@ -22,17 +22,17 @@ abbrev pub signs : List ℕ → List Sign
 signs bytes = map byte bytes
 
 -- the calls, with one buffer that nobody touches between them
-pub data Feeding : (came : List Sign) → (handed-out : List Message) → ChunkDeserializer → (buffer : List ℕ) → Type 0 where
+pub data Feeding : (came : List Sign) → (handed-out : List Message) → Decoder → (buffer : List ℕ) → Type 0 where
   opened : (room : ℕ) (buffer : List ℕ) → made room .answer ≡ taken → room ≤ length buffer → Feeding [] [] (made room .deserializer) buffer
-  wanted : {came : List Sign} {messages : List Message} {d : ChunkDeserializer} {buffer : List ℕ} → Feeding came messages d buffer
+  wanted : {came : List Sign} {messages : List Message} {d : Decoder} {buffer : List ℕ} → Feeding came messages d buffer
       → (input : List ℕ) → Bytes input → (used : ℕ) → next d input buffer .answer ≡ more used
       → Feeding (came ++ signs input) messages (next d input buffer .deserializer) (next d input buffer .payload)
-  handed : {came : List Sign} {messages : List Message} {d : ChunkDeserializer} {buffer : List ℕ} → Feeding came messages d buffer
+  handed : {came : List Sign} {messages : List Message} {d : Decoder} {buffer : List ℕ} → Feeding came messages d buffer
       → (input : List ℕ) → Bytes input → (type stream time long used : ℕ) → next d input buffer .answer ≡ message type stream time long used
       → Feeding (came ++ signs (take used input))
       (messages ++ (record { type = type; stream = stream; time = time; payload = take long (next d input buffer .payload) } ∷ []))
       (next d input buffer .deserializer) (next d input buffer .payload)
-  sized : {came : List Sign} {messages : List Message} {d : ChunkDeserializer} {buffer : List ℕ} → Feeding came messages d buffer
+  sized : {came : List Sign} {messages : List Message} {d : Decoder} {buffer : List ℕ} → Feeding came messages d buffer
       → (new : ℕ) → told d new .answer ≡ taken
       → Feeding (came ++ (new-size new ∷ [])) messages (told d new .deserializer) buffer
 
@@ -67,4 +67,4 @@ pub record Meant (came : List Sign) (messages : List Message) : Type 0 where
   pub handed-out : messages ≡ means (reading .items)
 
 abbrev pub FeedingMeans : Type 0
-FeedingMeans = (came : List Sign) (messages : List Message) (d : ChunkDeserializer) (buffer : List ℕ) → Feeding came messages d buffer → Meant came messages
+FeedingMeans = (came : List Sign) (messages : List Message) (d : Decoder) (buffer : List ℕ) → Feeding came messages d buffer → Meant came messages

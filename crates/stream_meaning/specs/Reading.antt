@@ -3,7 +3,7 @@ use Prim.Native.Nat.{ℕ}
 use mathlib.Core.List.{List, _++_}
 use mathlib.Core.Path.{_≡_}
 use Rattle.chunk_header.specs.Layout.{Chunk, chunkBytes}
-use Rattle.deserializer.specs.declared.ChunkDeserializer.{ChunkDeserializer}
+use Rattle.decoding.specs.Decoder.{Decoder}
 use Rattle.chunk_header.specs.Limits.{initialSize}
 use Rattle.stream_meaning.specs.Connection.{AllFit, Item, means, meansFrom, quiet}
 use Rattle.stream_meaning.specs.Feeding.{BegunFrom, Feeding, Reading, Sign, signs, signsOf}
@@ -28,18 +28,18 @@ OneChunk =
 -- so what came decides what is handed out, whatever the calls, the room and the buffer
 abbrev pub CameDecides : Type 0
 CameDecides =
-    (came : List Sign) (messages messages′ : List Message) (d d′ : ChunkDeserializer) (buffer buffer′ : List ℕ) → Feeding came messages d buffer
+    (came : List Sign) (messages messages′ : List Message) (d d′ : Decoder) (buffer buffer′ : List ℕ) → Feeding came messages d buffer
     → Feeding came messages′ d′ buffer′
     → messages ≡ messages′
 
 -- and chunks that fit, with the sizes at their places, hand out what they mean: whole, or with a part of one more after them
 abbrev pub MeansFed : Type 0
 MeansFed =
-    (items : List Item) (messages : List Message) (d : ChunkDeserializer) (buffer : List ℕ) → AllFit items → Feeding (signsOf items) messages d buffer
+    (items : List Item) (messages : List Message) (d : Decoder) (buffer : List ℕ) → AllFit items → Feeding (signsOf items) messages d buffer
     → messages ≡ means items
 
 abbrev pub MeansFedPart : Type 0
 MeansFedPart =
-    (items : List Item) (part : List ℕ) (messages : List Message) (d : ChunkDeserializer) (buffer : List ℕ) → AllFit items → BegunFrom initialSize quiet items part
+    (items : List Item) (part : List ℕ) (messages : List Message) (d : Decoder) (buffer : List ℕ) → AllFit items → BegunFrom initialSize quiet items part
     → Feeding (signsOf items ++ signs part) messages d buffer
     → messages ≡ means items

@@ -7,15 +7,15 @@ use mathlib.Core.Path.{_≡_}
 use lib.ListN.{length, take}
 use lib.Seq.{sets}
 use Rattle.chunk_header.specs.Layout.{Chunk, chunkBytes}
-use Rattle.deserializer.specs.declared.ChunkDeserializer.{ChunkDeserializer}
-use Rattle.deserializer.specs.Answer.{Listed, message, more, refused}
-use Rattle.deserializer.specs.Call.{Outcome, next}
-use Rattle.deserializer.specs.Calls.{Ready}
+use Rattle.decoding.specs.Decoder.{Decoder}
+use Rattle.decoding.specs.Answer.{Listed, message, more, refused}
+use Rattle.decoding.specs.Call.{Outcome, next}
+use Rattle.decoding.specs.Calls.{Ready}
 use Rattle.stream_meaning.specs.Stream.{Fits, Message, earlier, hands, saying, takes}
 use Rattle.stream_meaning.specs.View.{viewed}
 
 -- a chunk's bytes to a decoder
-abbrev pub fed : ChunkDeserializer → (buffer : List ℕ) → Chunk → Outcome
+abbrev pub fed : Decoder → (buffer : List ℕ) → Chunk → Outcome
 fed d buffer c = next d (chunkBytes c) buffer
 
 abbrev pub NotRefused : Listed → Type 0
@@ -27,7 +27,7 @@ Answers none used o = o .answer ≡ more used
 Answers (some m) used o = (o .answer ≡ message (m .type) (m .stream) (m .time) (length (m .payload)) used) × (take (length (m .payload)) (o .payload) ≡ m .payload)
 
 -- its own stream takes it and every other one is as before, the answer is what it hands out, and its payload is written after what came before it
-pub record Took (d : ChunkDeserializer) (buffer : List ℕ) (c : Chunk) (o : Outcome) : Type 0 where
+pub record Took (d : Decoder) (buffer : List ℕ) (c : Chunk) (o : Outcome) : Type 0 where
   pub mine : viewed (o .deserializer) (o .payload) (c .id) ≡ takes (viewed d buffer (c .id)) c
   pub others : (id : ℕ) → id ≢ 0 → id ≢ c .id → viewed (o .deserializer) (o .payload) id ≡ viewed d buffer id
   pub answers : Answers (hands (viewed d buffer (c .id)) c) (length (chunkBytes c)) o
@@ -39,7 +39,7 @@ pub record Took (d : ChunkDeserializer) (buffer : List ℕ) (c : Chunk) (o : Out
 
 abbrev pub OwnStream : Type 0
 OwnStream =
-    (d : ChunkDeserializer) (buffer : List ℕ) (c : Chunk) → Ready d buffer → Fits (d .«max_chunk_size») (viewed d buffer (c .id)) c
+    (d : Decoder) (buffer : List ℕ) (c : Chunk) → Ready d buffer → Fits (d .«max_chunk_size») (viewed d buffer (c .id)) c
     → NotRefused (fed d buffer c .answer)
     → Took d buffer c (fed d buffer c)
 

@@ -5,15 +5,15 @@ use mathlib.Core.List.{List}
 use mathlib.Core.Option.{none, some, Option·map}
 use lib.Dec.{eqb}
 use lib.ListN.{take}
-use Rattle.chunk_meaning.specs.declared.Row.{Row}
+use Rattle.chunk_meaning.specs.Stored.{Row}
 use Rattle.byte_machine.specs.Rows.{ownRow}
-use Rattle.deserializer.specs.declared.ChunkDeserializer.{ChunkDeserializer}
+use Rattle.decoding.specs.Decoder.{Decoder}
 use Rattle.stream_meaning.specs.Stream.{Said, Stream, said}
 
 abbrev pub saidIn : Row → Said
 saidIn r = said (r .timestamp .value) (r .«timestamp_field») (r .«message_length») (r .«message_type_id») (r .«message_stream_id»)
 
-abbrev pub viewed : ChunkDeserializer → (buffer : List ℕ) → (id : ℕ) → Stream
+abbrev pub viewed : Decoder → (buffer : List ℕ) → (id : ℕ) → Stream
 viewed d buffer id = record {
   stored = Option·map saidIn (ownRow (d .rows) id);
   come = cond (eqb (d .reader .message .id) id) (some (take (d .reader .message .got) buffer)) none;

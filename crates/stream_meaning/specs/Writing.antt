@@ -5,14 +5,11 @@ use mathlib.Core.List.{List, [], _∷_, _++_}
 use mathlib.Core.Path.{_≡_}
 use lib.ListN.{length}
 use lib.Seq.{sets}
-use Rattle.byte_machine.specs.declared.reader.Event.{Event}
-use Rattle.byte_machine.specs.declared.reader.Event.the-variants.{Go, Chunk, Message, Refuse}
-use Rattle.byte_machine.specs.declared.reader.Reader.{Reader}
-use Rattle.byte_machine.specs.Reader.{comeOf, inPayload}
-use Rattle.deserializer.specs.declared.ChunkDeserializer.{ChunkDeserializer}
-use Rattle.deserializer.specs.Answer.{more}
-use Rattle.deserializer.specs.Call.{after, next, stepOf}
-use Rattle.deserializer.specs.Calls.{Made}
+use Rattle.byte_machine.specs.Reader.{Event, Go, Chunk, Message, Refuse, Reader, comeOf, inPayload}
+use Rattle.decoding.specs.Decoder.{Decoder}
+use Rattle.decoding.specs.Answer.{more}
+use Rattle.decoding.specs.Call.{after, next, stepOf}
+use Rattle.decoding.specs.Calls.{Made}
 
 -- the place of the next payload byte: how much of the message at hand has come, none before its first chunk's payload
 abbrev pub placeIn : Reader → ℕ
@@ -25,23 +22,23 @@ unlessAnswered Chunk later = later
 unlessAnswered Message later = []
 unlessAnswered (Refuse k) later = []
 
-abbrev pub due : ChunkDeserializer → (byte : ℕ) → List ℕ
+abbrev pub due : Decoder → (byte : ℕ) → List ℕ
 due d b = cond (inPayload (d .reader .stage)) (b ∷ []) []
 
-unfoldable pub payloadIn : (input : List ℕ) → ChunkDeserializer → List ℕ
+unfoldable pub payloadIn : (input : List ℕ) → Decoder → List ℕ
 payloadIn [] d = []
 payloadIn (b ∷ bs) d = due d b ++ unlessAnswered (stepOf d b .event) (payloadIn bs (after d (stepOf d b)))
 
 -- "a call writes only the payload bytes that it used, at their own places", all of them within the room
-pub record Writes (d : ChunkDeserializer) (input buffer : List ℕ) : Type 0 where
+pub record Writes (d : Decoder) (input buffer : List ℕ) : Type 0 where
   pub stores : next d input buffer .payload ≡ sets buffer (placeIn (d .reader)) (payloadIn input d)
   pub within : placeIn (d .reader) + length (payloadIn input d) ≤ d .room
 
 abbrev pub WritesExactly : Type 0
-WritesExactly = (d : ChunkDeserializer) → Made d → (input buffer : List ℕ) → d .closed ≡ 0 → d .room ≤ length buffer → Writes d input buffer
+WritesExactly = (d : Decoder) → Made d → (input buffer : List ℕ) → d .closed ≡ 0 → d .room ≤ length buffer → Writes d input buffer
 
 -- of bytes cut in two, those of the first part, and then those of the second
 abbrev pub OfParts : Type 0
 OfParts =
-    (d : ChunkDeserializer) (a b : List ℕ) (m : ℕ) (buffer : List ℕ) → next d a buffer .answer ≡ more m
+    (d : Decoder) (a b : List ℕ) (m : ℕ) (buffer : List ℕ) → next d a buffer .answer ≡ more m
     → payloadIn (a ++ b) d ≡ payloadIn a d ++ payloadIn b (next d a buffer .deserializer)

@@ -3,9 +3,7 @@ use Prim.Native.Nat.{_%_}
 use mathlib.Core.Path.{sym, ap, _∙_}
 use native.Mathlib.Omega.{arith}
 use borrow.Author.Needs.{needs}
-use Rattle.byte_machine.specs.Reader.{at, go}
-use Rattle.byte_machine.specs.declared.reader.Stage.the-variants.{CsidSecond, CsidThird}
-use Rattle.byte_machine.specs.declared.reader.Stage.{Stage}
+use Rattle.byte_machine.specs.Reader.{at, go, CsidSecond, CsidThird, Stage}
 use Rattle.header_in_place.specs.Numbers.{readerFrom}
 use Rattle.header_in_place.specs.Byte.{doneOf, keptOf}
 use Rattle.header_in_place.proofs.Formats.{goes-at}

@@ -2,7 +2,7 @@
 use mathlib.Core.Path.{sym, subst}
 use native.Mathlib.Omega.{arith}
 use borrow.Author.Needs.{needs}
-use Rattle.byte_machine.specs.declared.reader.Stage.{Stage}
+use Rattle.byte_machine.specs.Reader.{Stage}
 use Rattle.header_in_place.specs.Byte.{bytesOf, Says}
 use Rattle.header_in_place.proofs.Stages.{is-csid, is-second, is-third}
 use Rattle.header_in_place.proofs.basic.says.Statement.{statement}

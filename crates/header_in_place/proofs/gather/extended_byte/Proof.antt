@@ -4,7 +4,7 @@ use mathlib.Core.Path.{_∙_}
 use borrow.Author.Tests.{le-leb, lt-leb}
 use borrow.Author.Needs.{needs}
 use Rattle.byte_machine.specs.Step.{extendedField}
-use Rattle.byte_machine.specs.declared.reader.Stage.the-variants.{ExtendedTimestamp}
+use Rattle.byte_machine.specs.Reader.{ExtendedTimestamp}
 use Rattle.header_in_place.proofs.Formats.{goes-at}
 use Rattle.header_in_place.proofs.gather.extended_byte.Statement.{statement}
 use Rattle.header_in_place.proofs.gather.extended_byte.Tie as tie

@@ -4,7 +4,7 @@ use mathlib.Core.Path.{_∙_}
 use borrow.Author.Tests.{le-leb, lt-leb}
 use borrow.Author.Needs.{needs}
 use Rattle.byte_machine.specs.Step.{lengthField}
-use Rattle.byte_machine.specs.declared.reader.Stage.the-variants.{MessageLength}
+use Rattle.byte_machine.specs.Reader.{MessageLength}
 use Rattle.header_in_place.proofs.Formats.{goes-at}
 use Rattle.header_in_place.proofs.gather.length_byte.Statement.{statement}
 use Rattle.header_in_place.proofs.gather.length_byte.Tie as tie

@@ -2,7 +2,7 @@
 use mathlib.Core.Path.{_∙_}
 use borrow.Author.Tests.{eq-eqb, ne-eqb}
 use borrow.Author.Needs.{needs}
-use Rattle.byte_machine.specs.declared.reader.Stage.the-variants.{ExtendedTimestamp}
+use Rattle.byte_machine.specs.Reader.{ExtendedTimestamp}
 use Rattle.byte_machine.specs.Header.{extendedNext}
 use Rattle.header_in_place.proofs.Formats.{goes-at}
 use Rattle.header_in_place.proofs.settle.extended_next.Statement.{statement}

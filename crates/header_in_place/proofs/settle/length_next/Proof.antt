@@ -1,8 +1,7 @@
 -- Types 0 and 1 have a length; the others pass it over.
 use mathlib.Core.Path.{ap, _∙_}
 use borrow.Author.Needs.{needs}
-use Rattle.byte_machine.specs.declared.reader.Stepped.{Stepped}
-use Rattle.byte_machine.specs.declared.reader.Stage.the-variants.{MessageLength}
+use Rattle.byte_machine.specs.Reader.{Stepped, MessageLength}
 use Rattle.header_in_place.specs.Byte.{doneOf}
 use Rattle.header_in_place.proofs.Formats.{goes-at, length-stops, length-passes}
 use Rattle.header_in_place.proofs.settle.length_next.Statement.{statement}

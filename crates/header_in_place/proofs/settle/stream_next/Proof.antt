@@ -1,8 +1,7 @@
 -- Type 0 has a stream; the others pass it over.
 use mathlib.Core.Path.{ap, _∙_}
 use borrow.Author.Needs.{needs}
-use Rattle.byte_machine.specs.declared.reader.Stepped.{Stepped}
-use Rattle.byte_machine.specs.declared.reader.Stage.the-variants.{MessageStreamId}
+use Rattle.byte_machine.specs.Reader.{Stepped, MessageStreamId}
 use Rattle.header_in_place.specs.Byte.{doneOf}
 use Rattle.header_in_place.proofs.Formats.{goes-at, stream-stops, stream-passes}
 use Rattle.header_in_place.proofs.settle.stream_next.Statement.{statement}

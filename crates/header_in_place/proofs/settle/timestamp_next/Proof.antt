@@ -1,8 +1,7 @@
 -- Every type but 3 has a time.
 use mathlib.Core.Path.{ap, _∙_}
 use borrow.Author.Needs.{needs}
-use Rattle.byte_machine.specs.declared.reader.Stepped.{Stepped}
-use Rattle.byte_machine.specs.declared.reader.Stage.the-variants.{InitialTimestamp}
+use Rattle.byte_machine.specs.Reader.{Stepped, InitialTimestamp}
 use Rattle.header_in_place.specs.Byte.{doneOf}
 use Rattle.header_in_place.proofs.Formats.{goes-at, timestamp-stops, timestamp-passes}
 use Rattle.header_in_place.proofs.settle.timestamp_next.Statement.{statement}

@@ -1,8 +1,7 @@
 -- Types 0 and 1 have a type; the others pass it over.
 use mathlib.Core.Path.{ap, _∙_}
 use borrow.Author.Needs.{needs}
-use Rattle.byte_machine.specs.declared.reader.Stepped.{Stepped}
-use Rattle.byte_machine.specs.declared.reader.Stage.the-variants.{MessageTypeId}
+use Rattle.byte_machine.specs.Reader.{Stepped, MessageTypeId}
 use Rattle.header_in_place.specs.Byte.{doneOf}
 use Rattle.header_in_place.proofs.Formats.{goes-at, type-stops, type-passes}
 use Rattle.header_in_place.proofs.settle.type_next.Statement.{statement}

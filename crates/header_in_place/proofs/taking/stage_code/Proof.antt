@@ -1,6 +1,6 @@
 -- A stage up to 8 is itself, and a larger number is 8.
 use mathlib.Core.Path.{sym, ap}
-use Rattle.byte_machine.specs.declared.reader.Stage.{Stage}
+use Rattle.byte_machine.specs.Reader.{Stage}
 use Rattle.header_in_place.specs.Numbers.{codeOf}
 use Rattle.header_in_place.proofs.Stages.{is-payload, code-again}
 use Rattle.header_in_place.proofs.taking.stage_code.Statement.{statement}

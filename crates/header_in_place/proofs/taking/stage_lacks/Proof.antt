@@ -1,7 +1,7 @@
 -- What is lacked, where the stage has it; the second byte of a basic header is a byte.
 use mathlib.Core.Path.{sym, ap}
 use native.Mathlib.Omega.{arith}
-use Rattle.byte_machine.specs.declared.reader.Stage.{Stage}
+use Rattle.byte_machine.specs.Reader.{Stage}
 use Rattle.header_in_place.specs.Numbers.{lacksOf}
 use Rattle.header_in_place.proofs.Stages.{is-third, is-type, is-payload, lacks-none, lacks-again}
 use Rattle.header_in_place.proofs.taking.stage_lacks.Statement.{statement}

@@ -1,6 +1,6 @@
 -- What was gathered, where the stage has it.
 use mathlib.Core.Path.{sym, ap}
-use Rattle.byte_machine.specs.declared.reader.Stage.{Stage}
+use Rattle.byte_machine.specs.Reader.{Stage}
 use Rattle.header_in_place.specs.Numbers.{numberOf}
 use Rattle.header_in_place.proofs.Stages.{is-csid, is-type, is-payload, number-again}
 use Rattle.header_in_place.proofs.taking.stage_number.Statement.{statement}

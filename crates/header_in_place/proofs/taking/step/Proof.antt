@@ -7,8 +7,7 @@ use borrow.Author.Needs.{needs}
 use Rattle.chunk_header.specs.declared.Csid.{Csid as Read}
 use Rattle.chunk_header.specs.declared.Csid.the-variants.{Id}
 use Rattle.chunk_header.specs.Table.{formatOf}
-use Rattle.byte_machine.specs.declared.reader.Stage.{Stage}
-use Rattle.byte_machine.specs.declared.reader.Stepped.{Stepped}
+use Rattle.byte_machine.specs.Reader.{Stage, Stepped}
 use Rattle.byte_machine.specs.Step.{stepped, named, basicBy}
 use Rattle.header_in_place.specs.Numbers.{stageIn, codeOf, readerFrom}
 use Rattle.header_in_place.specs.Byte.{doneOf, bytesOf, keptOf}

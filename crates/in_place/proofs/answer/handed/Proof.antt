@@ -1,7 +1,7 @@
 -- Each value is a number of the header that is held.
 use mathlib.Core.Path.{ap}
 use borrow.Author.Needs.{needs}
-use Rattle.deserializer.specs.Call.{read}
+use Rattle.decoding.specs.Call.{read}
 use Rattle.header_in_place.specs.Numbers.{readerFrom}
 use Rattle.header_in_place.specs.declared.numbers.Held.{Held}
 use Rattle.in_place.proofs.answer.handed.Statement.{statement}

@@ -4,9 +4,9 @@ use mathlib.Core.Path.{sym, ap, subst, _∙_}
 use native.Mathlib.Omega.{arith}
 use lib.ListN.{getD, length}
 use borrow.Author.Needs.{needs}
-use Rattle.deserializer.specs.Answer.{Listed, more}
-use Rattle.deserializer.specs.Call.{Outcome, next, outcome}
-use Rattle.deserializer.proofs.Runs.{next-closed, next-runs, next-short, run-end}
+use Rattle.decoding.specs.Answer.{Listed, more}
+use Rattle.decoding.specs.Call.{Outcome, next, outcome}
+use Rattle.decoding.proofs.Runs.{next-closed, next-runs, next-short, run-end}
 use Rattle.header_in_place.specs.Numbers.{decode}
 use Rattle.one_stroke.specs.Lent.{Lent}
 use Rattle.in_place.specs.Answer.{answerOf}

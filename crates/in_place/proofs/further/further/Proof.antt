@@ -76,7 +76,6 @@ same-length-2 c = search needs
 returns-5 : tie.Need-returns-5
 returns-5 c =
     let a = c .before .before .before .before .before .before .before .before .before .before .before .before .before .before .before .before .before .before .before .before .before .before .args in
-    let pre = c .before .before .before .before .before .before .before .before .before .before .before .before .before .before .before .before .before .before .before .before .before .before .pre in
     let g = c .before .before .before .before .before .before .chunks in
     follows-some (a .held .now) (a .rows .now) (a .input .now) (a .at) (c .before .before .before .before .before .before .before .before .before .before .before .before .find .result) (a .payload .now) (c .before .before .before .before .before .before .before .before .before .before .row-or-empty .result)
     (c .before .before .before .before .before .before .before .before .before .before .before .before .before .before .before .before .before .before .is-apart .ensures (c .before .before .before .before .before .before .before .before .before .before .before .before .before .before .before .before .before .if1 .left))
@@ -84,8 +83,6 @@ returns-5 c =
     (c .before .before .before .before .before .before .before .before .before .before .before .if2 .left)
     (c .before .before .before .before .before .before .before .before .before .before .row-or-empty .ensures)
     (c .before .before .before .before .before .before .before .before .before .is-other .ensures (c .before .before .before .before .before .before .before .before .if3 .left))
-    (pre .0)
-    (pre .1)
     (g .result)
     (c .gone-to .result)
     (g .last .1 .1 .1 .1 .1 .1 .0)

@@ -1,7 +1,7 @@
 -- The bytes go to their own places.
 use Prim.Native.Nat.{_+_}
 use mathlib.Core.Path.{_∙_}
-use Rattle.deserializer.proofs.FurtherOn.{stored-piece}
+use Rattle.decoding.proofs.FurtherOn.{stored-piece}
 use borrow.Author.Needs.{needs}
 use Rattle.in_place.proofs.further.take_chunk.Statement.{statement}
 use Rattle.in_place.proofs.further.take_chunk.Tie as tie

@@ -6,7 +6,7 @@ use lib.ListN.{getD, length, take}
 use borrow.Author.Needs.{needs}
 use Rattle.fields.specs.Output.{stored}
 use Rattle.byte_machine.specs.Payload.{landed}
-use Rattle.byte_machine.specs.declared.reader.Stepped.{Stepped}
+use Rattle.byte_machine.specs.Reader.{Stepped}
 use Rattle.header_in_place.specs.declared.numbers.Held.{Held}
 use Rattle.header_in_place.specs.Byte.{Left, doneOf}
 use Rattle.header_in_place.specs.Numbers.{decode, heldIn, readerFrom}

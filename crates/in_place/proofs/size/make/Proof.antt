@@ -1,6 +1,6 @@
 -- The room is tested as the definition tests it.
 use borrow.Author.Needs.{needs}
-use Rattle.deserializer.specs.Told.{fresh, made, refused, taken}
+use Rattle.decoding.specs.Told.{fresh, made, refused, taken}
 use Rattle.in_place.proofs.Sizes.{made-fits, made-large, made-lent, made-none}
 use Rattle.in_place.proofs.size.make.Statement.{statement}
 use Rattle.in_place.proofs.size.make.Tie as tie

@@ -5,7 +5,7 @@ use mathlib.Core.List.{List, []}
 use lib.ListN.{getD}
 use borrow.Author.Needs.{needs}
 use Rattle.chunk_header.specs.Table.{typeOf}
-use Rattle.deserializer.specs.Told.{sized}
+use Rattle.decoding.specs.Told.{sized}
 use Rattle.header_in_place.specs.Numbers.{again, decode, encode, formatFrom, heldIn, numbersOf}
 use Rattle.header_in_place.specs.declared.numbers.Held.{Held}
 use Rattle.header_in_place.proofs.Keeping.{from-again}

@@ -5,8 +5,8 @@ use mathlib.Core.List.{List}
 use native.Mathlib.Omega.{arith}
 use lib.ListN.{drop, getD}
 use borrow.Author.Needs.{needs}
-use Rattle.deserializer.specs.Call.{run}
-use Rattle.deserializer.proofs.Runs.{byte-at}
+use Rattle.decoding.specs.Call.{run}
+use Rattle.decoding.proofs.Runs.{byte-at}
 use Rattle.header_in_place.specs.Byte.{stepIn}
 use Rattle.header_in_place.specs.Numbers.{decode}
 use Rattle.header_in_place.proofs.Small.{left-means}

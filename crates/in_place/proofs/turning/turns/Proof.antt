@@ -7,9 +7,9 @@ use mathlib.Core.List.{List}
 use native.Mathlib.Omega.{arith}
 use lib.ListN.{drop, getD, length, length-drop, length-take}
 use borrow.Author.Needs.{needs}
-use Rattle.deserializer.specs.Answer.{Listed, more}
-use Rattle.deserializer.specs.Call.{outcome, run}
-use Rattle.deserializer.proofs.Runs.{run-end}
+use Rattle.decoding.specs.Answer.{Listed, more}
+use Rattle.decoding.specs.Call.{outcome, run}
+use Rattle.decoding.proofs.Runs.{run-end}
 use Rattle.header_in_place.specs.Numbers.{again, decode}
 use Rattle.one_stroke.specs.Lent.{Lent}
 use Rattle.in_place.specs.Answer.{answerOf}

@@ -5,7 +5,7 @@ use native.Mathlib.Omega.{arith}
 use lib.ListN.{drop, take}
 use lib.Seq.{sets}
 use Rattle.chunk_header.specs.Table.{headerLength, typeOf}
-use Rattle.deserializer.proofs.FurtherOn.{stored-piece}
+use Rattle.decoding.proofs.FurtherOn.{stored-piece}
 use Rattle.header_in_place.specs.declared.numbers.HeldRow.{HeldRow}
 use Rattle.one_stroke.specs.Quick.{formatAt, headerAt}
 use Rattle.one_stroke.proofs.AtOnce.{once-taken}

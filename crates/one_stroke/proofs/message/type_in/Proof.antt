@@ -1,6 +1,6 @@
 -- One byte is its own number.
 use mathlib.Core.Path.{sym, _∙_}
-use Rattle.deserializer.proofs.Heading.{one-number}
+use Rattle.decoding.proofs.Heading.{one-number}
 use borrow.Author.Needs.{needs}
 use Rattle.one_stroke.proofs.message.type_in.Statement.{statement}
 use Rattle.one_stroke.proofs.message.type_in.Tie as tie

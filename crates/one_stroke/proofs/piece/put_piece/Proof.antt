@@ -6,7 +6,7 @@ use native.Mathlib.Omega.{arith}
 use lib.ListN.{getD, drop-of-length-le}
 use lib.Seq.{sets}
 use Rattle.fields.proofs.Lists.{stored-fits, stored-none}
-use Rattle.deserializer.proofs.Runs.{byte-at}
+use Rattle.decoding.proofs.Runs.{byte-at}
 use borrow.Author.Needs.{needs}
 use Rattle.one_stroke.proofs.piece.put_piece.Statement.{statement}
 use Rattle.one_stroke.proofs.piece.put_piece.Tie as tie
