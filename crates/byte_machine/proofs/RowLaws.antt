@@ -136,6 +136,19 @@ find-first rows id j h k = seek-first 64 0 rows id j (omega arith) (omega arith)
 pub find-none : (rows : List ℕ) (id j : ℕ) → 64 ≤ find rows id → j < 64 → getD rows (6 * j) 0 ≢ id
 find-none rows id j h k = find-first rows id j (omega arith) k
 
+-- a search stays within the table
+seek-within : (n i : ℕ) (rows : List ℕ) (id : ℕ) → n + i ≤ 64 → seek n i rows id ≤ 64
+unfolding seek
+seek-within zero i rows id h = omega arith
+seek-within (suc n) i rows id h = by-cases (eqb (getD rows (6 * i) 0) id) (seek-within n (suc i) rows id (omega (arith, h)))
+  where
+    by-cases : (t : Bool) → seek n (suc i) rows id ≤ 64 → cond t i (seek n (suc i) rows id) ≤ 64
+    by-cases true later = omega (arith, h)
+    by-cases false later = later
+
+pub find-within : (rows : List ℕ) (id : ℕ) → find rows id ≤ 64
+find-within rows id = seek-within 64 0 rows id (omega arith)
+
 -- a row of that id is found
 pub found : (rows : List ℕ) (id p : ℕ) → p < 64 → getD rows (6 * p) 0 ≡ id → find rows id < 64
 found rows id p h e = by-cases (ltb (find rows id) 64) refl

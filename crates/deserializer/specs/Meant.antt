@@ -1,6 +1,6 @@
 -- The decoder that one by value means.
 use Rattle.decoding.specs.Decoder.{Decoder}
-use Rattle.header_in_place.specs.Numbers.{decode}
+use Rattle.held.specs.Numbers.{decode}
 use Rattle.deserializer.specs.declared.ChunkDeserializer.{ChunkDeserializer}
 
 abbrev pub meant : ChunkDeserializer → Decoder

@@ -6,7 +6,6 @@ ghost use Rattle.decoding.specs.Told.{made, told};
 ghost use Rattle.one_stroke.specs.Lent.{Lent};
 ghost use Rattle.in_place.specs.Answer.{LentSize, answerOf, sizeOf};
 ghost use Rattle.deserializer.specs.Meant.{meant};
-
 pub use in_place::Answer;
 pub use in_place::Telling;
 use in_place::get_max_chunk_size;

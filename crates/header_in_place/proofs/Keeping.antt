@@ -12,9 +12,10 @@ use Rattle.chunk_meaning.specs.Meaning.{basicRefusal}
 use Rattle.byte_machine.specs.Reader.{Event, Go, Chunk, Message, Refuse, Reader, Stepped}
 use Rattle.byte_machine.specs.Rows.{putAt}
 use Rattle.decoding.specs.Call.{after}
-use Rattle.header_in_place.specs.declared.numbers.Held.{Held}
-use Rattle.header_in_place.specs.Byte.{Left, doneOf, eventOf, refusalOf}
-use Rattle.header_in_place.specs.Numbers.{formatFrom, heldOf, meant, numbersOf, readerFrom, rowFrom}
+use Rattle.held.specs.declared.numbers.Held.{Held}
+use Rattle.held.specs.Done.{doneOf, eventOf, refusalOf}
+use Rattle.header_in_place.specs.Byte.{Left}
+use Rattle.held.specs.Numbers.{formatFrom, heldOf, meant, numbersOf, readerFrom, rowFrom}
 
 abbrev step : Reader → Event → ℕ → Stepped
 step r e p = record { reader = r; event = e; place = p }
@@ -34,14 +35,6 @@ left-kept h rows r Go p q = record { event-is = refl; numbers = refl; table = re
 left-kept h rows r Chunk p q = record { event-is = refl; numbers = refl; table = refl }
 left-kept h rows r Message p q = record { event-is = refl; numbers = refl; table = refl }
 left-kept h rows r (Refuse k) p q = absurd (q refl)
-
--- a format stands for itself
-pub from-again : (f : ChunkHeaderFormat) → formatFrom (typeOf f) ≡ f
-unfolding formatFrom
-from-again Full = refl
-from-again TimeDeltaWithoutMessageStreamId = refl
-from-again TimeDeltaOnly = refl
-from-again Empty = refl
 
 -- of a stream that has a row it does not count whether one is free
 pub free-known : (f : ChunkHeaderFormat) (free inside own : Bool) → basicRefusal f true true inside own ≡ basicRefusal f true free inside own

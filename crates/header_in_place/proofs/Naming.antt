@@ -4,19 +4,24 @@ use mathlib.Core.Path.{_≡_, refl, sym, ap, _∙_}
 use mathlib.Core.Logic.{_≢_}
 use mathlib.Core.Bool.{Bool, true, false, not}
 use mathlib.Core.List.{List}
+use native.Mathlib.Omega.{arith}
 use lib.Dec.{ltb, eqb}
+use lib.ListN.{getD}
 use borrow.Author.Tests.{lt-ltb, le-ltb}
 use Rattle.chunk_header.specs.declared.ChunkHeaderFormat.{ChunkHeaderFormat}
+use Rattle.chunk_header.specs.Basic.{csid}
 use Rattle.chunk_header.specs.Table.{formatOf, typeOf}
 use Rattle.chunk_meaning.specs.Meaning.{basicRefusal}
-use Rattle.byte_machine.specs.Reader.{refuse, Stepped}
+use Rattle.byte_machine.specs.Reader.{Reader, Stage, Csid, CsidSecond, CsidThird, InitialTimestamp, MessageLength, MessageTypeId, MessageStreamId, ExtendedTimestamp, MessagePayload, Stepped, refuse}
 use Rattle.byte_machine.specs.Rows.{find, free, rowAt}
-use Rattle.byte_machine.specs.Step.{claims, known, named}
+use Rattle.byte_machine.specs.Step.{basicBy, claims, known, named, stepped}
 use Rattle.byte_machine.proofs.Naming.{named-refused, named-known, named-claims}
-use Rattle.header_in_place.specs.declared.numbers.Held.{Held}
-use Rattle.header_in_place.specs.Byte.{doneOf}
-use Rattle.header_in_place.specs.Numbers.{formatFrom, readerFrom}
-use Rattle.header_in_place.proofs.Keeping.{from-again, free-known}
+use Rattle.held.specs.declared.numbers.Held.{Held}
+use Rattle.held.specs.Done.{doneOf}
+use Rattle.held.specs.Numbers.{codeOf, formatFrom, readerFrom}
+use Rattle.held.proofs.Formats.{from-again}
+use Rattle.header_in_place.specs.Byte.{bytesOf, keptOf}
+use Rattle.header_in_place.proofs.Keeping.{free-known}
 
 module _ (h : Held) (rows : List ℕ) (first id format place k : ℕ) (t : format ≡ typeOf (formatOf first)) (p : place ≡ find rows id) where
   abbrev said : Stepped
@@ -55,3 +60,16 @@ module _ (h : Held) (rows : List ℕ) (first id format place k : ℕ) (t : forma
     new-claims z =
         ap (λ (f : ChunkHeaderFormat). doneOf h (claims (readerFrom h) f id unused)) same-format
         ∙ ap (λ (s : Stepped). doneOf h s) (named-claims (h .room) (h .size) rows (readerFrom h) (formatOf first) id place unused k p u of-none z none)
+
+-- a byte of a basic header
+pub basic-at : (st : Stage) (room size : ℕ) (rows : List ℕ) (r : Reader) (b : ℕ) → codeOf st < 3
+    → basicBy (csid (bytesOf st b)) room size rows r (formatOf (getD (bytesOf st b) 0 0)) (keptOf st b) ≡ stepped st room size rows r b
+basic-at Csid room size rows r b h = refl
+basic-at (CsidSecond a) room size rows r b h = refl
+basic-at (CsidThird a c) room size rows r b h = refl
+basic-at (InitialTimestamp n l) room size rows r b h = absurd (omega (arith, h))
+basic-at (MessageLength n l) room size rows r b h = absurd (omega (arith, h))
+basic-at MessageTypeId room size rows r b h = absurd (omega (arith, h))
+basic-at (MessageStreamId n l) room size rows r b h = absurd (omega (arith, h))
+basic-at (ExtendedTimestamp n l) room size rows r b h = absurd (omega (arith, h))
+basic-at MessagePayload room size rows r b h = absurd (omega (arith, h))

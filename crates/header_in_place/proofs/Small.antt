@@ -24,8 +24,8 @@ use Rattle.byte_machine.specs.Step.{basicBy, claims, extendedField, gathered, l
 use Rattle.byte_machine.proofs.Passing.{at-length, at-stream, at-timestamp, at-type, either}
 use Rattle.decoding.specs.Call.{after, isRefusal}
 use Rattle.header_in_place.specs.Byte.{Left, stepIn}
-use Rattle.header_in_place.specs.Numbers.{decode, stageFrom}
-use Rattle.header_in_place.proofs.Again.{decode-encode, third}
+use Rattle.held.specs.Numbers.{again, decode, stageFrom}
+use Rattle.held.proofs.Again.{decode-encode, from-small, third}
 
 record Small (s : Stepped) : Type 0 where
   is : third (s .reader .stage) < 256
@@ -93,22 +93,6 @@ module _ (room size : ℕ) where
     stepped-small (MessageStreamId n l) rows b s k = either Small (leb l 1) (extended-small (headed r (streamed (r .chunk .header) (swapped (gathered n b)))) h) (none {s = go (at r (MessageStreamId (gathered n b) (l - 1)))} refl)
     stepped-small (ExtendedTimestamp n l) rows b s k = either Small (leb l 1) (whole-small r h (gathered n b)) (none {s = go (at r (ExtendedTimestamp (gathered n b) (l - 1)))} refl)
     stepped-small MessagePayload rows b s k = small h
-
--- what numbers mean is small, whatever they are
-pub from-small : (s n l : ℕ) → third (stageFrom s n l) < 256
-unfolding stageFrom
-from-small s n l = by-cases (eqb s 0) (eqb s 1) (eqb s 2) (eqb s 3) (eqb s 4) (eqb s 5) (eqb s 6) (eqb s 7)
-  where
-    by-cases : (t0 t1 t2 t3 t4 t5 t6 t7 : Bool) → third (cond t0 Csid (cond t1 (CsidSecond n) (cond t2 (CsidThird n (l % 256)) (cond t3 (InitialTimestamp n l) (cond t4 (MessageLength n l) (cond t5 MessageTypeId (cond t6 (MessageStreamId n l) (cond t7 (ExtendedTimestamp n l) MessagePayload)))))))) < 256
-    by-cases true t1 t2 t3 t4 t5 t6 t7 = omega arith
-    by-cases false true t2 t3 t4 t5 t6 t7 = omega arith
-    by-cases false false true t3 t4 t5 t6 t7 = omega arith
-    by-cases false false false true t4 t5 t6 t7 = omega arith
-    by-cases false false false false true t5 t6 t7 = omega arith
-    by-cases false false false false false true t6 t7 = omega arith
-    by-cases false false false false false false true t7 = omega arith
-    by-cases false false false false false false false true = omega arith
-    by-cases false false false false false false false false = omega arith
 
 -- so the numbers that a byte leaves mean the definition's decoder after it
 pub left-means : (event : ℕ) (held rows held′ rows′ : List ℕ) (b : ℕ) → b < 256

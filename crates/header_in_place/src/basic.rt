@@ -5,18 +5,19 @@ ghost use Rattle.byte_machine.specs.Reader.{at, go};
 ghost use Prim.Native.Nat.{_≤_, _<_};
 ghost use Rattle.chunk_header.specs.Table.{formatOf, typeOf};
 ghost use Rattle.byte_machine.specs.Step.{claims as Machine·claims, known as Machine·known, named as Machine·named};
-ghost use Rattle.header_in_place.specs.Byte.{Says, bytesOf, doneOf, keptOf};
-ghost use Rattle.header_in_place.specs.Numbers.{formatFrom, readerFrom, rowFrom, stageIn};
-use crate::numbers::Done;
-use crate::numbers::Held;
-use crate::numbers::HeldRow;
-use crate::numbers::goes;
-use crate::numbers::refused;
-use crate::refusals::basic_refusal;
-use crate::settle::timestamp_next;
-use crate::table::row_in;
-use crate::table::ROWS;
-use crate::table::find;
+ghost use Rattle.held.specs.Done.{doneOf};
+ghost use Rattle.header_in_place.specs.Byte.{Says, bytesOf, keptOf};
+ghost use Rattle.held.specs.Numbers.{formatFrom, readerFrom, rowFrom, stageIn};
+use held::Done;
+use held::Held;
+use held::HeldRow;
+use held::ROWS;
+use held::find;
+use held::goes;
+use held::refused;
+use held::row_in;
+use settling::basic_refusal;
+use settling::timestamp_next;
 
 // The type that a first byte says.
 fn type_in(first: u32) -> u32

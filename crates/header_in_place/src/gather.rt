@@ -2,17 +2,17 @@
 ghost use mathlib.Core.Path.{_≡_};
 ghost use Prim.Native.Nat.{_≤_};
 ghost use Rattle.byte_machine.specs.Step.{extendedField, gathered as Machine·gathered, lengthField, streamField, timestampField, typeField};
-ghost use Rattle.header_in_place.specs.Byte.{doneOf};
-ghost use Rattle.header_in_place.specs.Numbers.{readerFrom};
-use crate::numbers::Done;
-use crate::numbers::Held;
-use crate::numbers::goes;
-use crate::settle::extended_next;
-use crate::settle::length_next;
-use crate::settle::settled;
-use crate::settle::stream_next;
-use crate::settle::type_next;
+ghost use Rattle.held.specs.Done.{doneOf};
+ghost use Rattle.held.specs.Numbers.{readerFrom};
 use fields::swap_bytes;
+use held::Done;
+use held::Held;
+use held::goes;
+use settling::extended_next;
+use settling::length_next;
+use settling::settled;
+use settling::stream_next;
+use settling::type_next;
 
 // One byte more of a number.
 fn gathered(before: u32, byte: u8) -> u32

@@ -18,10 +18,10 @@ use Rattle.decoding.specs.Further.{Amid, Next, gone}
 use Rattle.decoding.specs.Decoder.{Decoder}
 use Rattle.decoding.proofs.Cut.{run-shift, shift}
 use Rattle.decoding.proofs.FurtherOn.{amid-at, amid-gone, further-runs, put-own}
-use Rattle.header_in_place.specs.declared.numbers.HeldRow.{HeldRow}
-use Rattle.header_in_place.specs.Numbers.{decode, encode, heldIn, heldRowOf, numbersOf, readerFrom}
-use Rattle.header_in_place.proofs.Again.{decode-encode}
-use Rattle.header_in_place.proofs.Stages.{is-csid}
+use Rattle.held.specs.declared.numbers.HeldRow.{HeldRow}
+use Rattle.held.specs.Numbers.{decode, encode, heldIn, heldRowOf, numbersOf, readerFrom}
+use Rattle.held.proofs.Again.{decode-encode}
+use Rattle.held.proofs.Stages.{is-csid}
 use Rattle.in_place.specs.declared.further.Gone.{Gone}
 use Rattle.in_place.specs.declared.paying.Moved.{Moved}
 use Rattle.in_place.specs.Follow.{Follows, Goes, Paused, Plain, goneTo}

@@ -14,11 +14,11 @@ use Rattle.byte_machine.specs.Payload.{landed, paid}
 use Rattle.byte_machine.specs.Reader.{ended, go, inPayload, paused, Reader}
 use Rattle.decoding.specs.Call.{after, run}
 use Rattle.decoding.proofs.Runs.{bulk, landed-not-refused, pays-tells, run-broken, run-header, then}
-use Rattle.header_in_place.specs.Byte.{Left, eventOf, stepIn}
-use Rattle.header_in_place.specs.Numbers.{decode, heldIn, readerFrom}
-use Rattle.header_in_place.proofs.Again.{decode-encode, third}
-use Rattle.header_in_place.proofs.Small.{from-small}
-use Rattle.header_in_place.proofs.Stages.{is-payload, not-payload}
+use Rattle.held.specs.Done.{eventOf}
+use Rattle.header_in_place.specs.Byte.{Left, stepIn}
+use Rattle.held.specs.Numbers.{decode, heldIn, readerFrom}
+use Rattle.held.proofs.Again.{decode-encode, third, from-small}
+use Rattle.held.proofs.Stages.{is-payload, not-payload}
 use Rattle.in_place.specs.Turn.{Ready, mayPay}
 
 -- payload is never refused where it lands

@@ -5,13 +5,15 @@ use mathlib.Core.Logic.{_≢_}
 use mathlib.Core.Bool.{true, false}
 use mathlib.Core.List.{List, []}
 use native.Mathlib.Omega.{arith}
+use lib.ListN.{getD}
 use borrow.Author.Tests.{eq-eqb, ne-eqb, lt-ltb, le-ltb}
 use Rattle.chunk_header.specs.Limits.{maxSize}
 use Rattle.byte_machine.specs.Reader.{atStart}
 use Rattle.decoding.specs.Told.{Outcome, Size, between, fresh, made, maxRoom, outcome, refused, sized, taken, told}
 use Rattle.decoding.specs.Decoder.{Decoder}
-use Rattle.header_in_place.specs.Numbers.{again, decode, encode, stageFrom}
-use Rattle.header_in_place.proofs.Stages.{is-payload}
+use Rattle.held.specs.Numbers.{again, decode, encode, stageFrom}
+use Rattle.held.proofs.Again.{decode-encode, again-means, from-small}
+use Rattle.held.proofs.Stages.{is-payload}
 use Rattle.in_place.specs.Answer.{LentSize, LentTold, Stands}
 
 -- before the first byte of a chunk only at stage 0
@@ -56,11 +58,12 @@ module _ (held : List ℕ) (size : ℕ) (held′ : List ℕ) where
   -- refused, and so the same decoder
   pub told-refused : (number : ℕ) (answer : Size) → answer ≡ refused number → held′ ≡ again held
       → ((rows : List ℕ) → Says rows (outcome (refused number) (decode held rows))) → LentTold answer held size held′
-  told-refused number answer e k says = rw e (told-lent (refused number) (λ rows. decode held rows) says (λ rows. record { numbers = k; table = refl }))
+  told-refused number answer e k says = rw e (told-lent (refused number) (λ rows. decode held rows) says (λ rows. record { numbers = k; table = refl; means = again-means held held′ rows k }))
 
   -- taken
   pub told-taken : held′ ≡ encode (sized (decode held []) size) → ((rows : List ℕ) → Says rows (outcome taken (sized (decode held rows) size))) → LentTold taken held size held′
-  told-taken k says = told-lent taken (λ rows. sized (decode held rows) size) says (λ rows. record { numbers = k; table = refl })
+  told-taken k says = told-lent taken (λ rows. sized (decode held rows) size) says
+      (λ rows. record { numbers = k; table = refl; means = rw k (decode-encode (sized (decode held rows) size) (from-small (getD held 3 0) (getD held 4 0) (getD held 5 0))) })
 
 -- what is told a decoder, by the first line that holds
 module _ (d : Decoder) (size : ℕ) where

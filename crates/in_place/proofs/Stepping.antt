@@ -13,11 +13,13 @@ use Rattle.decoding.specs.Answer.{Listed, refused}
 use Rattle.decoding.specs.Call.{Outcome, after, outcome, read, run}
 use Rattle.decoding.specs.Decoder.{Decoder}
 use Rattle.decoding.proofs.Runs.{then}
-use Rattle.header_in_place.specs.Byte.{Left, doneOf, eventOf}
-use Rattle.header_in_place.specs.Numbers.{again, decode, encode, meant, numbersOf, rowFrom}
-use Rattle.header_in_place.specs.declared.numbers.Done.{Done}
-use Rattle.header_in_place.specs.declared.numbers.Held.{Held}
+use Rattle.held.specs.Done.{doneOf, eventOf}
+use Rattle.header_in_place.specs.Byte.{Left}
+use Rattle.held.specs.Numbers.{again, decode, encode, meant, numbersOf, rowFrom}
+use Rattle.held.specs.declared.numbers.Done.{Done}
+use Rattle.held.specs.declared.numbers.Held.{Held}
 use Rattle.header_in_place.proofs.Keeping.{left-kept}
+use Rattle.held.proofs.Again.{again-means}
 use Rattle.in_place.specs.declared.paying.Moved.{Moved}
 use Rattle.one_stroke.specs.Lent.{Lent}
 use Rattle.in_place.specs.Turn.{Turned, follows}
@@ -67,6 +69,7 @@ lent o answer held rows payload held′ e k = record {
   numbers = k ∙ sym (ap (λ (x : Outcome). encode (x .deserializer)) e);
   table = sym (ap (λ (x : Outcome). x .deserializer .rows) e);
   buffer = sym (ap (λ (x : Outcome). x .payload) e);
+  means = again-means held held′ rows k ∙ sym (ap (λ (x : Outcome). x .deserializer) e);
 }
 
 -- what follows a message, a refusal, and any other turn

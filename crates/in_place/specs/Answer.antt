@@ -5,7 +5,7 @@ use mathlib.Core.Path.{_≡_}
 use Rattle.decoding.specs.Answer.{Listed, message, more, refused}
 use Rattle.decoding.specs.Told.{Size, taken, told, refused as Told·refused, Outcome as Told·Outcome}
 use Rattle.decoding.specs.Decoder.{Decoder}
-use Rattle.header_in_place.specs.Numbers.{decode, encode}
+use Rattle.held.specs.Numbers.{decode, encode}
 use Rattle.in_place.specs.declared.answer.Answer.{Answer}
 use Rattle.in_place.specs.declared.answer.Answer.the-variants.{Message, More, Refused as AnswerRefused}
 use Rattle.in_place.specs.declared.size.Telling.{Telling}
@@ -17,10 +17,11 @@ answerOf (Message type stream time length used) = message type stream (time .val
 answerOf (More used) = more used
 answerOf (AnswerRefused number used) = refused number used
 
--- numbers and a table that stand for a decoder
+-- numbers and a table that stand for a decoder, and mean it
 pub record Stands (held rows : List ℕ) (d : Decoder) : Type 0 where
   pub numbers : held ≡ encode d
   pub table : rows ≡ d .rows
+  pub means : decode held rows ≡ d
 
 -- of making a decoder and of telling it a size
 abbrev pub sizeOf : Telling → Size

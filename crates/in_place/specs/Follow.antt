@@ -12,9 +12,9 @@ use Rattle.byte_machine.specs.Rows.{putRow}
 use Rattle.decoding.specs.Call.{run}
 use Rattle.decoding.specs.Further.{Amid, Next, gone}
 use Rattle.decoding.specs.Decoder.{Decoder}
-use Rattle.header_in_place.specs.declared.numbers.Held.{Held}
-use Rattle.header_in_place.specs.declared.numbers.HeldRow.{HeldRow}
-use Rattle.header_in_place.specs.Numbers.{again, decode}
+use Rattle.held.specs.declared.numbers.Held.{Held}
+use Rattle.held.specs.declared.numbers.HeldRow.{HeldRow}
+use Rattle.held.specs.Numbers.{again, decode}
 use Rattle.in_place.specs.declared.further.Gone.{Gone}
 
 -- between two chunks of a message whose stream's id fits one byte

@@ -10,8 +10,8 @@ use Rattle.byte_machine.specs.Payload.{pays}
 use Rattle.decoding.specs.Answer.{refused}
 use Rattle.decoding.specs.Call.{Outcome, outcome, read, run}
 use Rattle.decoding.specs.Decoder.{Decoder}
-use Rattle.header_in_place.specs.Numbers.{again, decode, heldIn, readerFrom}
-use Rattle.header_in_place.specs.declared.numbers.Held.{Held}
+use Rattle.held.specs.Numbers.{again, decode, heldIn, readerFrom}
+use Rattle.held.specs.declared.numbers.Held.{Held}
 use Rattle.in_place.specs.declared.paying.Moved.{Moved}
 
 -- what follows a turn, by the number of what it settled: 2 a message, 3 a refusal, with which the decoder is closed

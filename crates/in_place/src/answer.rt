@@ -2,9 +2,9 @@
 ghost use mathlib.Core.Path.{_≡_};
 ghost use Rattle.decoding.specs.Answer.{refused as Answer·refused};
 ghost use Rattle.decoding.specs.Call.{read};
-ghost use Rattle.header_in_place.specs.Numbers.{heldIn, readerFrom};
+ghost use Rattle.held.specs.Numbers.{heldIn, readerFrom};
 ghost use Rattle.in_place.specs.Answer.{answerOf};
-use header_in_place::held_in;
+use held::held_in;
 use time::RtmpTimestamp;
 
 pub enum Answer {

@@ -1,14 +1,14 @@
 // The next message, over what is lent.
 ghost use Rattle.decoding.specs.Call.{next};
-ghost use Rattle.header_in_place.specs.Numbers.{decode};
+ghost use Rattle.held.specs.Numbers.{decode};
 ghost use Rattle.one_stroke.specs.Lent.{Lent};
 ghost use Rattle.in_place.specs.Answer.{answerOf};
 use crate::answer::Answer;
 use crate::answer::handed;
 use crate::answer::refused;
 use crate::turning::turns;
-use header_in_place::wide;
-use header_in_place::renew;
+use held::renew;
+use held::wide;
 use one_stroke::at_once;
 use one_stroke::within;
 

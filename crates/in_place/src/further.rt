@@ -5,19 +5,19 @@ ghost use lib.Dec.{leb};
 ghost use lib.ListN.{drop, getD, length as ListN·length, take};
 ghost use lib.Seq.{sets};
 ghost use Rattle.decoding.specs.Further.{Stops};
-ghost use Rattle.header_in_place.specs.Numbers.{numbersOf};
+ghost use Rattle.held.specs.Numbers.{numbersOf};
 ghost use Rattle.in_place.specs.Follow.{Apart, Follows, Goes, Other, goneTo};
-use header_in_place::ROWS;
-use header_in_place::find;
-use header_in_place::lacking;
-use header_in_place::least;
-use header_in_place::wide;
 use chunk_header::MAX_INITIAL_TIMESTAMP;
 use fields::put_bytes;
-use header_in_place::Held;
-use header_in_place::HeldRow;
-use header_in_place::numbers_of;
-use header_in_place::row_or_empty;
+use held::Held;
+use held::HeldRow;
+use held::ROWS;
+use held::find;
+use held::lacking;
+use held::least;
+use held::numbers_of;
+use held::row_or_empty;
+use held::wide;
 
 // How much of the message has come, and the place in the input.
 pub struct Gone {

@@ -2,17 +2,17 @@
 ghost use mathlib.Core.Path.{_≡_};
 ghost use Prim.Native.Nat.{_+_, _≤_};
 ghost use Rattle.byte_machine.specs.Payload.{landed as Payload·landed};
-ghost use Rattle.header_in_place.specs.Byte.{doneOf};
-ghost use Rattle.header_in_place.specs.Numbers.{heldIn, readerFrom};
+ghost use Rattle.held.specs.Done.{doneOf};
+ghost use Rattle.held.specs.Numbers.{heldIn, readerFrom};
 ghost use Rattle.in_place.specs.Turn.{Ready, Turned, mayPay};
-use header_in_place::wide;
 use fields::least;
 use fields::put_bytes;
-use header_in_place::Done;
-use header_in_place::Held;
-use header_in_place::held_in;
-use header_in_place::numbers_of;
-use header_in_place::put_at;
+use held::Done;
+use held::Held;
+use held::held_in;
+use held::numbers_of;
+use held::put_at;
+use held::wide;
 
 // What a turn settled, and how many bytes it used.
 pub struct Moved {

@@ -2,13 +2,13 @@
 ghost use mathlib.Core.List.{[]};
 ghost use mathlib.Core.Path.{_≡_};
 ghost use Rattle.decoding.specs.Told.{between as Told·between, fresh as Told·fresh, made, refused as Told·refused, sized};
-ghost use Rattle.header_in_place.specs.Numbers.{again, decode, encode, heldIn, readerFrom};
+ghost use Rattle.held.specs.Numbers.{again, decode, encode, heldIn, readerFrom};
 ghost use Rattle.in_place.specs.Answer.{LentSize, LentTold, Stands, sizeOf};
 use chunk_header::INITIAL_MAX_CHUNK_SIZE;
 use chunk_header::LARGEST_CHUNK_SIZE;
-use header_in_place::held_in;
-use header_in_place::numbers_of;
-use header_in_place::renew;
+use held::held_in;
+use held::numbers_of;
+use held::renew;
 
 // No message is longer.
 const LARGEST_ROOM: u32 = 16777215;

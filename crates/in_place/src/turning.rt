@@ -2,7 +2,7 @@
 ghost use Prim.Native.Nat.{_≤_, _<_};
 ghost use lib.ListN.{getD, length};
 ghost use Rattle.decoding.specs.Call.{run};
-ghost use Rattle.header_in_place.specs.Numbers.{decode};
+ghost use Rattle.held.specs.Numbers.{decode};
 ghost use Rattle.one_stroke.specs.Lent.{Lent};
 ghost use Rattle.in_place.specs.Answer.{answerOf};
 ghost use Rattle.in_place.specs.Turn.{Turned};

@@ -27,10 +27,10 @@ use Rattle.decoding.specs.Head.{Known, headerIn, settledBy}
 use Rattle.decoding.specs.Decoder.{Decoder}
 use Rattle.decoding.proofs.Heading.{known-runs}
 use Rattle.decoding.proofs.Runs.{bulk, holding, next-runs, then}
-use Rattle.header_in_place.specs.declared.numbers.HeldRow.{HeldRow}
-use Rattle.header_in_place.specs.Numbers.{decode, encode, formatFrom, heldIn, heldRow, heldRowOf, numbersOf, readerFrom, rowFrom}
-use Rattle.header_in_place.proofs.Keeping.{from-again}
-use Rattle.header_in_place.proofs.Stages.{is-csid}
+use Rattle.held.specs.declared.numbers.HeldRow.{HeldRow}
+use Rattle.held.specs.Numbers.{decode, encode, formatFrom, heldIn, heldRow, heldRowOf, numbersOf, readerFrom, rowFrom}
+use Rattle.held.proofs.Formats.{from-again}
+use Rattle.held.proofs.Stages.{is-csid}
 use Rattle.one_stroke.specs.declared.message.Seen.{Seen}
 use Rattle.one_stroke.specs.Lent.{Lent}
 use Rattle.one_stroke.specs.Quick.{Between, Fits, Whole, formatAt, headerAt, placeAt, rowOn, timedAt}
@@ -184,4 +184,5 @@ module _ (held rows input payload : List ℕ) (bytes : Bytes input) (b : Between
         (stroke (next d input payload) (read (finished .reader) (start + long)) finished held′ rows′ payload′
         (next-runs d input payload (b .open-still) (b .room) ∙ once-runs ∙ (rw (← p)))
         numbers
-        (t ∙ (rw (w .place-is, w .header-is))))
+        (t ∙ (rw (w .place-is, w .header-is)))
+        (omega arith))

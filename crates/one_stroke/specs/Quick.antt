@@ -16,8 +16,8 @@ use Rattle.decoding.specs.Call.{next, read}
 use Rattle.decoding.specs.Chunk.{carried}
 use Rattle.decoding.specs.Head.{headerIn}
 use Rattle.decoding.specs.Within.{Lies}
-use Rattle.header_in_place.specs.declared.numbers.HeldRow.{HeldRow}
-use Rattle.header_in_place.specs.Numbers.{decode, heldIn, heldRow, heldRowOf, readerFrom}
+use Rattle.held.specs.declared.numbers.HeldRow.{HeldRow}
+use Rattle.held.specs.Numbers.{decode, heldIn, heldRow, heldRowOf, readerFrom}
 use Rattle.one_stroke.specs.declared.message.Seen.{Seen}
 use Rattle.one_stroke.specs.Lent.{Lent}
 

@@ -8,11 +8,8 @@ ghost use Rattle.chunk_header.specs.Table.{headerLength, typeOf};
 ghost use Rattle.chunk_header.specs.declared.ChunkHeaderFormat.the-variants.{TimeDeltaWithoutMessageStreamId};
 ghost use Rattle.decoding.specs.Chunk.{carried as Chunk·carried};
 ghost use Rattle.decoding.specs.Head.{headerIn};
-ghost use Rattle.header_in_place.specs.Numbers.{heldRowOf, rowFrom};
+ghost use Rattle.held.specs.Numbers.{heldRowOf, rowFrom};
 ghost use Rattle.one_stroke.specs.Quick.{Midway, Once, Sees, Unfit, unseen as Quick·unseen};
-use header_in_place::ROWS;
-use header_in_place::find;
-use header_in_place::wide;
 use chunk_header::ChunkHeaderFormat;
 use chunk_header::MAX_INITIAL_TIMESTAMP;
 use chunk_header::chunk_type;
@@ -21,12 +18,15 @@ use chunk_header::header_length;
 use fields::number_at;
 use fields::put_bytes;
 use fields::swap_bytes;
-use header_in_place::Held;
-use header_in_place::HeldRow;
-use header_in_place::first_time;
-use header_in_place::numbers_of;
-use header_in_place::put_at;
-use header_in_place::row_or_empty;
+use held::Held;
+use held::HeldRow;
+use held::ROWS;
+use held::find;
+use held::numbers_of;
+use held::put_at;
+use held::row_or_empty;
+use held::wide;
+use settling::first_time;
 
 // The fields of a header after a basic header of one byte.
 fn time_in(input: &[u8]) -> u32

@@ -3,13 +3,13 @@ ghost use mathlib.Core.Path.{_≡_};
 ghost use Prim.Native.Nat.{_+_, _-_, _≤_};
 ghost use Rattle.fields.specs.Output.{stored};
 ghost use Rattle.byte_machine.specs.Payload.{paid};
-ghost use Rattle.header_in_place.specs.Numbers.{heldOf, readerFrom};
+ghost use Rattle.held.specs.Numbers.{heldOf, readerFrom};
 ghost use Rattle.one_stroke.specs.Quick.{Outside, Piece};
-use header_in_place::wide;
 use fields::put_bytes;
-use header_in_place::Held;
-use header_in_place::held_in;
-use header_in_place::numbers_of;
+use held::Held;
+use held::held_in;
+use held::numbers_of;
+use held::wide;
 
 // Whether a piece of so many bytes is none; `lent` is what the buffer has.
 fn lies_outside(held: &[u32; 24], length: usize, lent: usize) -> bool

@@ -1,5 +1,5 @@
 -- A claimed row, with the stage of a first field, is the definition's by its own words.
-use Rattle.header_in_place.proofs.Formats.{type-again}
+use Rattle.held.proofs.Formats.{type-again}
 use Rattle.header_in_place.proofs.basic.claims.Statement.{statement}
 use Rattle.header_in_place.proofs.basic.claims.Tie as tie
 

@@ -4,10 +4,11 @@ use mathlib.Core.Path.{sym, ap, _∙_}
 use native.Mathlib.Omega.{arith}
 use borrow.Author.Needs.{needs}
 use Rattle.byte_machine.specs.Reader.{at, go, CsidSecond, CsidThird, Stage}
-use Rattle.header_in_place.specs.Numbers.{readerFrom}
-use Rattle.header_in_place.specs.Byte.{doneOf, keptOf}
-use Rattle.header_in_place.proofs.Formats.{goes-at}
-use Rattle.header_in_place.proofs.Stages.{is-csid, is-second, is-third}
+use Rattle.held.specs.Numbers.{readerFrom}
+use Rattle.held.specs.Done.{doneOf}
+use Rattle.header_in_place.specs.Byte.{keptOf}
+use Rattle.held.proofs.Formats.{goes-at}
+use Rattle.held.proofs.Stages.{is-csid, is-second, is-third}
 use Rattle.header_in_place.proofs.basic.keeps.Statement.{statement}
 use Rattle.header_in_place.proofs.basic.keeps.Tie as tie
 

@@ -4,11 +4,11 @@ use native.Mathlib.Omega.{arith}
 use borrow.Author.Needs.{needs}
 use Rattle.byte_machine.specs.Rows.{find}
 use Rattle.byte_machine.specs.Step.{known}
-use Rattle.header_in_place.proofs.Formats.{small-type}
-use Rattle.header_in_place.specs.declared.numbers.HeldRow.{HeldRow}
-use Rattle.header_in_place.specs.Byte.{doneOf}
-use Rattle.header_in_place.specs.Numbers.{formatFrom, readerFrom, rowFrom}
-use Rattle.header_in_place.proofs.Stages.{find-within}
+use Rattle.held.proofs.Formats.{small-type}
+use Rattle.held.specs.declared.numbers.HeldRow.{HeldRow}
+use Rattle.held.specs.Done.{doneOf}
+use Rattle.held.specs.Numbers.{formatFrom, readerFrom, rowFrom}
+use Rattle.byte_machine.proofs.RowLaws.{find-within}
 use Rattle.header_in_place.proofs.Naming.{row-refused, row-known, new-refused, new-claims}
 use Rattle.header_in_place.proofs.basic.named.Statement.{statement}
 use Rattle.header_in_place.proofs.basic.named.Tie as tie

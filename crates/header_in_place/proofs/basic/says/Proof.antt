@@ -4,7 +4,7 @@ use native.Mathlib.Omega.{arith}
 use borrow.Author.Needs.{needs}
 use Rattle.byte_machine.specs.Reader.{Stage}
 use Rattle.header_in_place.specs.Byte.{bytesOf, Says}
-use Rattle.header_in_place.proofs.Stages.{is-csid, is-second, is-third}
+use Rattle.held.proofs.Stages.{is-csid, is-second, is-third}
 use Rattle.header_in_place.proofs.basic.says.Statement.{statement}
 use Rattle.header_in_place.proofs.basic.says.Tie as tie
 

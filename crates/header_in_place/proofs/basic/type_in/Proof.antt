@@ -3,7 +3,7 @@ use Prim.Native.Nat.{_/_}
 use mathlib.Core.Path.{_≡_, sym}
 use native.Mathlib.Omega.{arith}
 use Rattle.chunk_header.specs.Table.{formatOf}
-use Rattle.header_in_place.proofs.Formats.{high-format}
+use Rattle.held.proofs.Formats.{high-format}
 use Rattle.header_in_place.proofs.basic.type_in.Statement.{statement}
 use Rattle.header_in_place.proofs.basic.type_in.Tie as tie
 

@@ -5,7 +5,7 @@ use borrow.Author.Tests.{le-leb, lt-leb}
 use borrow.Author.Needs.{needs}
 use Rattle.byte_machine.specs.Step.{lengthField}
 use Rattle.byte_machine.specs.Reader.{MessageLength}
-use Rattle.header_in_place.proofs.Formats.{goes-at}
+use Rattle.held.proofs.Formats.{goes-at}
 use Rattle.header_in_place.proofs.gather.length_byte.Statement.{statement}
 use Rattle.header_in_place.proofs.gather.length_byte.Tie as tie
 

@@ -9,9 +9,11 @@ use Rattle.chunk_header.specs.declared.Csid.the-variants.{Id}
 use Rattle.chunk_header.specs.Table.{formatOf}
 use Rattle.byte_machine.specs.Reader.{Stage, Stepped}
 use Rattle.byte_machine.specs.Step.{stepped, named, basicBy}
-use Rattle.header_in_place.specs.Numbers.{stageIn, codeOf, readerFrom}
-use Rattle.header_in_place.specs.Byte.{doneOf, bytesOf, keptOf}
-use Rattle.header_in_place.proofs.Stages.{is-timestamp, is-length, is-type, is-stream, is-extended, is-payload, code-again, basic-at}
+use Rattle.held.specs.Numbers.{stageIn, codeOf, readerFrom}
+use Rattle.held.specs.Done.{doneOf}
+use Rattle.header_in_place.specs.Byte.{bytesOf, keptOf}
+use Rattle.held.proofs.Stages.{is-timestamp, is-length, is-type, is-stream, is-extended, is-payload, code-again}
+use Rattle.header_in_place.proofs.Naming.{basic-at}
 use Rattle.header_in_place.proofs.taking.step.Statement.{statement}
 use Rattle.header_in_place.proofs.taking.step.Tie as tie
 

@@ -6,12 +6,13 @@ use mathlib.Core.Path.{sym, ap, subst, _∙_}
 use lib.ListN.{getD}
 use borrow.Author.Needs.{needs}
 use Rattle.byte_machine.specs.Rows.{putAt}
-use Rattle.header_in_place.specs.Numbers.{readerFrom, rowFrom, meant, numbersOf, heldOf}
-use Rattle.header_in_place.specs.declared.numbers.Held.{Held}
-use Rattle.header_in_place.specs.declared.numbers.Done.{Done}
-use Rattle.header_in_place.specs.Byte.{doneOf, stepIn, Left}
+use Rattle.held.specs.Numbers.{readerFrom, rowFrom, meant, numbersOf, heldOf}
+use Rattle.held.specs.declared.numbers.Held.{Held}
+use Rattle.held.specs.declared.numbers.Done.{Done}
+use Rattle.held.specs.Done.{doneOf}
+use Rattle.header_in_place.specs.Byte.{stepIn, Left}
 use Rattle.header_in_place.proofs.Keeping.{left-refused, left-kept}
-use Rattle.header_in_place.proofs.Formats.{type-small}
+use Rattle.held.proofs.Formats.{type-small}
 use Rattle.header_in_place.proofs.taking.take_byte.Statement.{statement}
 use Rattle.header_in_place.proofs.taking.take_byte.Tie as tie
 

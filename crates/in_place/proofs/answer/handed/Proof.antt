@@ -2,8 +2,8 @@
 use mathlib.Core.Path.{ap}
 use borrow.Author.Needs.{needs}
 use Rattle.decoding.specs.Call.{read}
-use Rattle.header_in_place.specs.Numbers.{readerFrom}
-use Rattle.header_in_place.specs.declared.numbers.Held.{Held}
+use Rattle.held.specs.Numbers.{readerFrom}
+use Rattle.held.specs.declared.numbers.Held.{Held}
 use Rattle.in_place.proofs.answer.handed.Statement.{statement}
 use Rattle.in_place.proofs.answer.handed.Tie as tie
 

@@ -7,7 +7,7 @@ use borrow.Author.Needs.{needs}
 use Rattle.decoding.specs.Answer.{Listed, more}
 use Rattle.decoding.specs.Call.{Outcome, next, outcome}
 use Rattle.decoding.proofs.Runs.{next-closed, next-runs, next-short, run-end}
-use Rattle.header_in_place.specs.Numbers.{decode}
+use Rattle.held.specs.Numbers.{decode}
 use Rattle.one_stroke.specs.Lent.{Lent}
 use Rattle.in_place.specs.Answer.{answerOf}
 use Rattle.in_place.proofs.Stepping.{lent}

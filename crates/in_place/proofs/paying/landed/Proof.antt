@@ -1,9 +1,9 @@
 -- By whether the chunk has ended, and then its message.
 use Prim.Native.Nat.{_+_, _-_}
 use Rattle.byte_machine.specs.Payload.{landed}
-use Rattle.header_in_place.proofs.Stages.{is-payload}
+use Rattle.held.proofs.Stages.{is-payload}
 use borrow.Author.Tests.{eq-eqb, ne-eqb, lt-ltb, le-ltb}
-use Rattle.header_in_place.proofs.Formats.{type-again}
+use Rattle.held.proofs.Formats.{type-again}
 use borrow.Author.Needs.{needs}
 use Rattle.in_place.proofs.paying.landed.Statement.{statement}
 use Rattle.in_place.proofs.paying.landed.Tie as tie

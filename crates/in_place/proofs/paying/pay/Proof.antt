@@ -7,10 +7,11 @@ use borrow.Author.Needs.{needs}
 use Rattle.fields.specs.Output.{stored}
 use Rattle.byte_machine.specs.Payload.{landed}
 use Rattle.byte_machine.specs.Reader.{Stepped}
-use Rattle.header_in_place.specs.declared.numbers.Held.{Held}
-use Rattle.header_in_place.specs.Byte.{Left, doneOf}
-use Rattle.header_in_place.specs.Numbers.{decode, heldIn, readerFrom}
-use Rattle.header_in_place.proofs.Formats.{type-small}
+use Rattle.held.specs.declared.numbers.Held.{Held}
+use Rattle.held.specs.Done.{doneOf}
+use Rattle.header_in_place.specs.Byte.{Left}
+use Rattle.held.specs.Numbers.{decode, heldIn, readerFrom}
+use Rattle.held.proofs.Formats.{type-small}
 use Rattle.in_place.proofs.Landing.{landed-kept, landed-means, stretched}
 use Rattle.in_place.proofs.Stepping.{kept, turned}
 use Rattle.in_place.proofs.paying.pay.Statement.{statement}

@@ -1,7 +1,7 @@
 -- Stage 0 is the only one before a chunk's first byte.
 use lib.ListN.{getD}
 use borrow.Author.Needs.{needs}
-use Rattle.header_in_place.proofs.Stages.{is-csid}
+use Rattle.held.proofs.Stages.{is-csid}
 use Rattle.in_place.proofs.Sizes.{not-start}
 use Rattle.in_place.proofs.size.between.Statement.{statement}
 use Rattle.in_place.proofs.size.between.Tie as tie

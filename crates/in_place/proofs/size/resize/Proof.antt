@@ -6,9 +6,9 @@ use lib.ListN.{getD}
 use borrow.Author.Needs.{needs}
 use Rattle.chunk_header.specs.Table.{typeOf}
 use Rattle.decoding.specs.Told.{sized}
-use Rattle.header_in_place.specs.Numbers.{again, decode, encode, formatFrom, heldIn, numbersOf}
-use Rattle.header_in_place.specs.declared.numbers.Held.{Held}
-use Rattle.header_in_place.proofs.Keeping.{from-again}
+use Rattle.held.specs.Numbers.{again, decode, encode, formatFrom, heldIn, numbersOf}
+use Rattle.held.specs.declared.numbers.Held.{Held}
+use Rattle.held.proofs.Formats.{from-again}
 use Rattle.in_place.proofs.size.resize.Statement.{statement}
 use Rattle.in_place.proofs.size.resize.Tie as tie
 

@@ -1,7 +1,7 @@
 -- The lines of the table in their order, to a decoder of any table.
 use mathlib.Core.Path.{sym, _∙_}
 use lib.ListN.{getD}
-use Rattle.header_in_place.specs.Numbers.{decode}
+use Rattle.held.specs.Numbers.{decode}
 use Rattle.in_place.specs.Answer.{sizeOf}
 use Rattle.in_place.proofs.Sizes.{says-closed, says-inside, says-large, says-none, says-taken, told-refused, told-taken}
 use borrow.Author.Needs.{needs}

@@ -8,7 +8,7 @@ use borrow.Author.Needs.{needs}
 use Rattle.decoding.specs.Call.{run}
 use Rattle.decoding.proofs.Runs.{byte-at}
 use Rattle.header_in_place.specs.Byte.{stepIn}
-use Rattle.header_in_place.specs.Numbers.{decode}
+use Rattle.held.specs.Numbers.{decode}
 use Rattle.header_in_place.proofs.Small.{left-means}
 use Rattle.in_place.proofs.Landing.{byte-runs, ready}
 use Rattle.in_place.proofs.Stepping.{turned}

@@ -10,7 +10,7 @@ use borrow.Author.Needs.{needs}
 use Rattle.decoding.specs.Answer.{Listed, more}
 use Rattle.decoding.specs.Call.{outcome, run}
 use Rattle.decoding.proofs.Runs.{run-end}
-use Rattle.header_in_place.specs.Numbers.{again, decode}
+use Rattle.held.specs.Numbers.{again, decode}
 use Rattle.one_stroke.specs.Lent.{Lent}
 use Rattle.in_place.specs.Answer.{answerOf}
 use Rattle.in_place.specs.Turn.{follows}

@@ -6,7 +6,7 @@ use lib.ListN.{drop, take}
 use lib.Seq.{sets}
 use Rattle.chunk_header.specs.Table.{headerLength, typeOf}
 use Rattle.decoding.proofs.FurtherOn.{stored-piece}
-use Rattle.header_in_place.specs.declared.numbers.HeldRow.{HeldRow}
+use Rattle.held.specs.declared.numbers.HeldRow.{HeldRow}
 use Rattle.one_stroke.specs.Quick.{formatAt, headerAt}
 use Rattle.one_stroke.proofs.AtOnce.{once-taken}
 use borrow.Author.Needs.{needs}

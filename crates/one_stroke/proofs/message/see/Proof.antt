@@ -5,7 +5,7 @@ use native.Mathlib.Omega.{arith}
 use lib.ListN.{getD}
 use Rattle.chunk_header.specs.Table.{typeOf}
 use Rattle.chunk_header.proofs.Table.{header-most}
-use Rattle.header_in_place.proofs.Formats.{small-type}
+use Rattle.held.proofs.Formats.{small-type}
 use Rattle.one_stroke.specs.declared.message.Seen.{Seen}
 use Rattle.one_stroke.proofs.AtOnce.{sees}
 use borrow.Author.Needs.{needs}

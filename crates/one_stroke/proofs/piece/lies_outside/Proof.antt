@@ -4,7 +4,7 @@ use lib.ListN.{getD}
 use native.Mathlib.Omega.{arith}
 use borrow.Author.Tests.{leb-false}
 use Rattle.fields.proofs.Tests.{never}
-use Rattle.header_in_place.proofs.Stages.{is-payload}
+use Rattle.held.proofs.Stages.{is-payload}
 use borrow.Author.Needs.{needs}
 use Rattle.one_stroke.proofs.piece.lies_outside.Statement.{statement}
 use Rattle.one_stroke.proofs.piece.lies_outside.Tie as tie

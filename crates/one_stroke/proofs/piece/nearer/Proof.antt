@@ -1,6 +1,6 @@
 -- The stage stays the payload's, whose numbers are 8, 0 and 0.
-use Rattle.header_in_place.proofs.Formats.{type-again}
-use Rattle.header_in_place.proofs.Stages.{is-payload}
+use Rattle.held.proofs.Formats.{type-again}
+use Rattle.held.proofs.Stages.{is-payload}
 use borrow.Author.Needs.{needs}
 use Rattle.one_stroke.proofs.piece.nearer.Statement.{statement}
 use Rattle.one_stroke.proofs.piece.nearer.Tie as tie

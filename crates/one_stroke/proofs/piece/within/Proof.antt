@@ -7,9 +7,9 @@ use lib.ListN.{getD, length}
 use Rattle.fields.specs.Output.{stored}
 use Rattle.fields.proofs.Tests.{never}
 use Rattle.byte_machine.specs.Payload.{paid}
-use Rattle.header_in_place.specs.declared.numbers.Held.{Held}
-use Rattle.header_in_place.specs.Numbers.{heldOf, numbersOf, readerFrom}
-use Rattle.header_in_place.proofs.Formats.{type-small}
+use Rattle.held.specs.declared.numbers.Held.{Held}
+use Rattle.held.specs.Numbers.{heldOf, numbersOf, readerFrom}
+use Rattle.held.proofs.Formats.{type-small}
 use Rattle.one_stroke.proofs.Strokes.{piece-taken}
 use borrow.Author.Needs.{needs}
 use Rattle.one_stroke.proofs.piece.within.Statement.{statement}

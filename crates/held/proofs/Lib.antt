@@ -1,0 +1,4 @@
+pub mod Again
+pub mod Formats
+pub mod Samples
+pub mod Stages

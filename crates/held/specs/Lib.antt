@@ -1,0 +1,3 @@
+-- a decoder as numbers, and what a byte did as numbers
+pub mod Numbers
+pub mod Done

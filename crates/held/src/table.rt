@@ -1,0 +1,77 @@
+// The table of 64 header rows, lent as numbers: six a row, and a row of id 0 is free.
+ghost use mathlib.Core.Path.{_≡_};
+ghost use Prim.Native.Nat.{_<_};
+ghost use Rattle.byte_machine.specs.Rows.{putAt, putRow, rowAt, rowOrEmpty};
+ghost use Rattle.byte_machine.specs.Rows.{find as Rows·find};
+ghost use Rattle.held.specs.Numbers.{rowFrom, heldRowOf};
+use crate::numbers::HeldRow;
+
+pub const ROWS: usize = 64;
+
+// The first row of this id, or 64.
+pub fn find(rows: &[u32; 384], id: u32) -> usize
+    ensures { λ r. ⌜ r ≡ Rows·find (now (rows .entry)) id ⌝ }
+{
+    let mut i = 0;
+    while i < ROWS {
+        if rows[6 * i] == id {
+            return i;
+        }
+        i += 1;
+    }
+    ROWS
+}
+
+pub fn row_in(rows: &[u32; 384], i: usize) -> HeldRow
+    requires { ⌜ i < 64 ⌝ }
+    ensures { λ r. ⌜ r ≡ heldRowOf (rowAt (now (rows .entry)) i) ⌝ }
+{
+    let at = 6 * i;
+    HeldRow {
+        id: rows[at],
+        time: rows[at + 1],
+        field: rows[at + 2],
+        length: rows[at + 3],
+        kind: rows[at + 4] % 256,
+        stream: rows[at + 5],
+    }
+}
+
+fn put_row(rows: &mut [u32; 384], i: usize, row: HeldRow)
+    requires { ⌜ i < 64 ⌝ }
+    ensures { λ _. ⌜ now (rows .exit) ≡ putRow (now (rows .entry)) i (rowFrom row) ⌝ }
+{
+    let at = 6 * i;
+    rows[at] = row.id;
+    rows[at + 1] = row.time;
+    rows[at + 2] = row.field;
+    rows[at + 3] = row.length;
+    rows[at + 4] = row.kind;
+    rows[at + 5] = row.stream;
+}
+
+// The row at a place; an empty one where the table has none there.
+pub fn row_or_empty(rows: &[u32; 384], place: usize) -> HeldRow
+    ensures { λ r. ⌜ r ≡ heldRowOf (rowOrEmpty (now (rows .entry)) place) ⌝ }
+{
+    if place < ROWS {
+        return row_in(rows, place);
+    }
+    HeldRow {
+        id: 0,
+        time: 0,
+        field: 0,
+        length: 0,
+        kind: 0,
+        stream: 0,
+    }
+}
+
+// The same, where the table has that place.
+pub fn put_at(rows: &mut [u32; 384], place: u32, row: HeldRow)
+    ensures { λ _. ⌜ now (rows .exit) ≡ putAt (now (rows .entry)) place (rowFrom row) ⌝ }
+{
+    if place < 64 {
+        put_row(rows, place as usize, row);
+    }
+}
