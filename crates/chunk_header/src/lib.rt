@@ -1,9 +1,7 @@
 // What a chunk's header is made of (chunk_io/chunk_header.rs of rml_rtmp).
 ghost use mathlib.Core.Path.{_≡_};
-ghost use Rattle.chunk_header.specs.Basic.{csid};
 ghost use Rattle.chunk_header.specs.Header.{nothing};
 ghost use Rattle.chunk_header.specs.Table.{fieldLength, formatOf, headerLength, indexOf, typeOf};
-use fields::wide;
 use time::RtmpTimestamp;
 
 // The four chunk types.
@@ -51,7 +49,7 @@ pub const LARGEST_CHUNK_SIZE: u32 = 2147483647;
 pub const LARGEST_ROOM: u32 = 16777215;
 
 // Field lengths by chunk type: timestamp, message length, message type, message stream.
-const FIELD_LENGTHS: [usize; 16] = [3, 3, 1, 4, 3, 3, 1, 0, 3, 0, 0, 0, 0, 0, 0, 0];
+const FIELD_LENGTHS: [u32; 16] = [3, 3, 1, 4, 3, 3, 1, 0, 3, 0, 0, 0, 0, 0, 0, 0];
 
 // Message header lengths by chunk type.
 const HEADER_LENGTHS: [usize; 4] = [11, 7, 3, 0];
@@ -96,7 +94,7 @@ fn field_index(field: HeaderField) -> usize
 }
 
 // How many bytes a field takes in a chunk of this format.
-pub fn field_length(format: ChunkHeaderFormat, field: HeaderField) -> usize
+pub fn field_length(format: ChunkHeaderFormat, field: HeaderField) -> u32
     ensures { λ r. ⌜ r ≡ fieldLength (typeOf format) (indexOf field) ⌝ }
 {
     let at = chunk_type(format) * 4 + field_index(field);
@@ -125,27 +123,4 @@ pub fn get_format(byte: u8) -> ChunkHeaderFormat
         return ChunkHeaderFormat::TimeDeltaOnly;
     }
     ChunkHeaderFormat::Empty
-}
-
-// The chunk stream id that the bytes of a basic header say.
-pub fn get_csid(bytes: &[u8]) -> Csid
-    ensures { λ r. ⌜ r ≡ csid (now (bytes .entry)) ⌝ }
-{
-    if bytes.len() < 1 {
-        return Csid::Incomplete;
-    }
-    let n = bytes[0] % 64;
-    if n == 0 {
-        if bytes.len() < 2 {
-            return Csid::Incomplete;
-        }
-        return Csid::Id(wide(bytes[1]) + 64);
-    }
-    if n == 1 {
-        if bytes.len() < 3 {
-            return Csid::Incomplete;
-        }
-        return Csid::Id(256 * wide(bytes[2]) + wide(bytes[1]) + 64);
-    }
-    Csid::Id(wide(n))
 }

@@ -1,5 +1,5 @@
 -- The ways a whole basic header goes, by numbers.
-use Prim.Native.Nat.{ℕ, _≤_, _<_}
+use Prim.Native.Nat.{ℕ, zero, suc, _≤_, _<_}
 use mathlib.Core.Path.{_≡_, refl, sym, ap, _∙_}
 use mathlib.Core.Logic.{_≢_}
 use mathlib.Core.Bool.{Bool, true, false, not}
@@ -18,7 +18,7 @@ use Rattle.byte_machine.specs.Step.{basicBy, claims, known, named, stepped}
 use Rattle.byte_machine.proofs.Naming.{named-refused, named-known, named-claims}
 use Rattle.held.specs.declared.numbers.Held.{Held}
 use Rattle.held.specs.Done.{doneOf}
-use Rattle.held.specs.Numbers.{codeOf, formatFrom, readerFrom}
+use Rattle.held.specs.Numbers.{codeOf, formatFrom, readerFrom, stageFrom}
 use Rattle.held.proofs.Formats.{from-again}
 use Rattle.header_in_place.specs.Byte.{bytesOf, keptOf}
 use Rattle.header_in_place.proofs.Keeping.{free-known}
@@ -73,3 +73,11 @@ basic-at MessageTypeId room size rows r b h = absurd (omega (arith, h))
 basic-at (MessageStreamId n l) room size rows r b h = absurd (omega (arith, h))
 basic-at (ExtendedTimestamp n l) room size rows r b h = absurd (omega (arith, h))
 basic-at MessagePayload room size rows r b h = absurd (omega (arith, h))
+
+-- a basic header of two bytes or three keeps its first
+pub kept-first : (s n l b : ℕ) → s ≢ 0 → s < 3 → getD (bytesOf (stageFrom s n l) b) 0 0 ≡ n
+unfolding stageFrom
+kept-first zero n l b h k = absurd (h refl)
+kept-first (suc zero) n l b h k = refl
+kept-first (suc (suc zero)) n l b h k = refl
+kept-first (suc (suc (suc s))) n l b h k = absurd (omega (arith, k))

@@ -1,13 +1,8 @@
 -- What a byte of a header does to numbers: what each function of this crate ensures, by the definition of the same name.
 use Prim.Native.Nat.{ℕ}
 use mathlib.Core.List.{List, [], _∷_}
-use mathlib.Core.Logic.{_≢_}
 use mathlib.Core.Path.{_≡_}
-use lib.ListN.{getD}
-use Rattle.chunk_header.specs.declared.Csid.the-variants.{Id, Incomplete}
-use Rattle.chunk_header.specs.Basic.{csid}
 use Rattle.byte_machine.specs.Reader.{Stage, Csid, CsidSecond, CsidThird, InitialTimestamp, MessageLength, MessageTypeId, MessageStreamId, ExtendedTimestamp, MessagePayload, Stepped}
-use Rattle.header_in_place.specs.declared.basic.Said.{Said}
 use Rattle.byte_machine.specs.Step.{stepped}
 use Rattle.decoding.specs.Call.{after}
 use Rattle.decoding.specs.Decoder.{Decoder}
@@ -47,9 +42,3 @@ keptOf MessageTypeId b = Csid
 keptOf (MessageStreamId n lacks) b = Csid
 keptOf (ExtendedTimestamp n lacks) b = Csid
 keptOf MessagePayload b = Csid
-
--- what they say: an id, or nothing yet
-pub record Says (s : Said) (bytes : List ℕ) : Type 0 where
-  pub first-is : s .first ≡ getD bytes 0 0
-  pub none : s .id ≡ 0 → csid bytes ≡ Incomplete
-  pub some : s .id ≢ 0 → csid bytes ≡ Id (s .id)

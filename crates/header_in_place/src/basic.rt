@@ -3,11 +3,14 @@ ghost use mathlib.Core.Path.{_≡_};
 ghost use mathlib.Core.List.{[], _∷_};
 ghost use Rattle.byte_machine.specs.Reader.{at, go};
 ghost use Prim.Native.Nat.{_≤_, _<_};
+ghost use lib.ListN.{getD};
+ghost use Rattle.chunk_header.specs.Basic.{csid};
 ghost use Rattle.chunk_header.specs.Table.{formatOf, typeOf};
 ghost use Rattle.byte_machine.specs.Step.{claims as Machine·claims, known as Machine·known, named as Machine·named};
 ghost use Rattle.held.specs.Done.{doneOf};
-ghost use Rattle.header_in_place.specs.Byte.{Says, bytesOf, keptOf};
-ghost use Rattle.held.specs.Numbers.{formatFrom, readerFrom, rowFrom, stageIn};
+ghost use Rattle.header_in_place.specs.Byte.{bytesOf, keptOf, stepIn};
+ghost use Rattle.held.specs.Numbers.{formatFrom, meant, readerFrom, rowFrom, stageIn};
+use chunk_header::Csid;
 use held::Done;
 use held::Held;
 use held::HeldRow;
@@ -94,7 +97,7 @@ fn claims(h: Held, format: u32, id: u32, place: u32) -> Done
 }
 
 // The last byte of a basic header that says this id.
-pub fn named(h: Held, rows: &[u32; 384], first: u32, id: u32) -> Done
+fn named(h: Held, rows: &[u32; 384], first: u32, id: u32) -> Done
     ensures { λ r. ⌜ r ≡ doneOf h (Machine·named (h .room) (h .size) (now (rows .entry)) (readerFrom h) (formatOf first) id) ⌝ }
 {
     let format = type_in(first);
@@ -115,57 +118,52 @@ pub fn named(h: Held, rows: &[u32; 384], first: u32, id: u32) -> Done
     claims(h, format, id, unused as u32)
 }
 
-// What a basic header says so far: its first byte, and an id; 0: more of it has to come.
-pub struct Said {
-    pub first: u32,
-    pub id: u32,
-}
-
-fn one(a: u32) -> Said
-    ensures { λ r. ⌜ Says r (a ∷ []) ⌝ }
+// A basic header of one byte, of two and of three: an id, or more of it has to come.
+fn one(a: u32) -> Csid
+    ensures { λ r. ⌜ r ≡ csid (a ∷ []) ⌝ }
 {
     let n = a % 64;
     if n < 2 {
-        return Said { first: a, id: 0 };
+        return Csid::Incomplete;
     }
-    Said { first: a, id: n }
+    Csid::Id(n)
 }
 
-fn two(a: u32, b: u32) -> Said
+fn two(a: u32, b: u32) -> Csid
     requires { ⌜ b ≤ 255 ⌝ }
-    ensures { λ r. ⌜ Says r (a ∷ b ∷ []) ⌝ }
+    ensures { λ r. ⌜ r ≡ csid (a ∷ b ∷ []) ⌝ }
 {
     let n = a % 64;
     if n == 0 {
         let id = b + 64;
-        return Said { first: a, id: id };
+        return Csid::Id(id);
     }
     if n == 1 {
-        return Said { first: a, id: 0 };
+        return Csid::Incomplete;
     }
-    Said { first: a, id: n }
+    Csid::Id(n)
 }
 
-fn three(a: u32, b: u32, c: u32) -> Said
+fn three(a: u32, b: u32, c: u32) -> Csid
     requires { ⌜ (b ≤ 255) × (c ≤ 255) ⌝ }
-    ensures { λ r. ⌜ Says r (a ∷ b ∷ c ∷ []) ⌝ }
+    ensures { λ r. ⌜ r ≡ csid (a ∷ b ∷ c ∷ []) ⌝ }
 {
     let n = a % 64;
     if n == 0 {
         let id = b + 64;
-        return Said { first: a, id: id };
+        return Csid::Id(id);
     }
     if n == 1 {
         let id = 256 * c + b + 64;
-        return Said { first: a, id: id };
+        return Csid::Id(id);
     }
-    Said { first: a, id: n }
+    Csid::Id(n)
 }
 
-// At the three stages of a basic header.
-pub fn says(h: Held, byte: u8) -> Said
+// What the bytes of a basic header say with one more.
+fn get_csid(h: Held, byte: u8) -> Csid
     requires { ⌜ h .stage < 3 ⌝ }
-    ensures { λ r. ⌜ Says r (bytesOf (stageIn h) byte) ⌝ }
+    ensures { λ r. ⌜ r ≡ csid (bytesOf (stageIn h) byte) ⌝ }
 {
     let last = byte as u32;
     if h.stage == 0 {
@@ -178,8 +176,19 @@ pub fn says(h: Held, byte: u8) -> Said
     three(h.number, second, last)
 }
 
+// Its first byte.
+fn first_of(h: Held, byte: u8) -> u32
+    requires { ⌜ h .stage < 3 ⌝ }
+    ensures { λ r. ⌜ r ≡ getD (bytesOf (stageIn h) byte) 0 0 ⌝ }
+{
+    if h.stage == 0 {
+        return byte as u32;
+    }
+    h.number
+}
+
 // Kept, until more of it has come.
-pub fn keeps(h: Held, byte: u8) -> Done
+fn keeps(h: Held, byte: u8) -> Done
     requires { ⌜ (h .format ≤ 3) × (h .stage < 3) ⌝ }
     ensures { λ r. ⌜ r ≡ doneOf h (go (at (readerFrom h) (keptOf (stageIn h) byte))) ⌝ }
 {
@@ -192,4 +201,17 @@ pub fn keeps(h: Held, byte: u8) -> Done
     }
     let second = h.lacks % 256;
     goes(h, 2, h.number, second)
+}
+
+// A byte of a basic header: it says an id, or is kept.
+pub fn basic_byte(h: Held, rows: &[u32; 384], byte: u8) -> Done
+    requires { ⌜ (h .format ≤ 3) × (h .stage < 3) ⌝ }
+    ensures { λ r. ⌜ r ≡ doneOf h (stepIn (meant h (now (rows .entry))) byte) ⌝ }
+{
+    let read = get_csid(h, byte);
+    let Csid::Id(id) = read else {
+        return keeps(h, byte);
+    };
+    let first = first_of(h, byte);
+    named(h, rows, first, id)
 }

@@ -4,9 +4,7 @@ ghost use Prim.Native.Nat.{_≤_};
 ghost use Rattle.held.specs.Done.{doneOf};
 ghost use Rattle.header_in_place.specs.Byte.{Left, stepIn};
 ghost use Rattle.held.specs.Numbers.{decode, meant};
-use crate::basic::keeps;
-use crate::basic::named;
-use crate::basic::says;
+use crate::basic::basic_byte;
 use crate::gather::extended_byte;
 use crate::gather::length_byte;
 use crate::gather::stream_byte;
@@ -26,11 +24,7 @@ fn step(h: Held, rows: &[u32; 384], byte: u8) -> Done
     ensures { λ r. ⌜ r ≡ doneOf h (stepIn (meant h (now (rows .entry))) byte) ⌝ }
 {
     if h.stage < 3 {
-        let said = says(h, byte);
-        if said.id == 0 {
-            return keeps(h, byte);
-        }
-        return named(h, rows, said.first, said.id);
+        return basic_byte(h, rows, byte);
     }
     if h.stage == 3 {
         return timestamp_byte(h, byte);

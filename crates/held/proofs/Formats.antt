@@ -12,7 +12,6 @@ use Rattle.chunk_header.specs.declared.ChunkHeaderFormat.{ChunkHeaderFormat}
 use Rattle.chunk_header.specs.declared.ChunkHeaderFormat.the-variants.{Full, TimeDeltaWithoutMessageStreamId, TimeDeltaOnly, Empty}
 use Rattle.chunk_header.specs.Table.{isEmpty, isFull, typeOf, fieldLength, formatOf}
 use Rattle.byte_machine.specs.Reader.{Stage, InitialTimestamp, MessageLength, MessageTypeId, MessageStreamId, at, go}
-use Rattle.byte_machine.specs.Header.{extendedNext, lengthNext, streamNext, timestampNext, typeNext}
 use Rattle.held.specs.declared.numbers.Held.{Held}
 use Rattle.held.specs.Done.{doneOf, goesTo}
 use Rattle.held.specs.Numbers.{codeOf, formatFrom, lacksOf, numberOf, readerFrom}
@@ -82,39 +81,6 @@ module _ (h : Held) (fits : h .format ≤ 3) where
   -- a byte that only goes on
   pub goes-at : (s : Stage) → goesTo h (codeOf s) (numberOf s) (lacksOf s) ≡ doneOf h (go (at (readerFrom h) s))
   goes-at s = rw (type-again (h .format) fits)
-
-  -- each field is there, or passed over
-  pub stream-stops : h .format ≡ 0 → go (at (readerFrom h) (MessageStreamId 0 4)) ≡ streamNext (h .room) (h .size) (readerFrom h)
-  unfolding streamNext fieldLength
-  stream-stops e = rw (type-again (h .format) fits, e)
-
-  pub stream-passes : h .format ≢ 0 → extendedNext (h .room) (h .size) (readerFrom h) ≡ streamNext (h .room) (h .size) (readerFrom h)
-  unfolding streamNext fieldLength
-  stream-passes e = rw (type-again (h .format) fits, lt-leb (h .format) 0 (omega (arith, e)))
-
-  pub type-stops : h .format < 2 → go (at (readerFrom h) MessageTypeId) ≡ typeNext (h .room) (h .size) (readerFrom h)
-  unfolding typeNext fieldLength
-  type-stops e = rw (type-again (h .format) fits, le-leb (h .format) 1 (omega (arith, e)))
-
-  pub type-passes : 2 ≤ h .format → extendedNext (h .room) (h .size) (readerFrom h) ≡ typeNext (h .room) (h .size) (readerFrom h)
-  unfolding typeNext fieldLength
-  type-passes e = stream-passes (omega (arith, e)) ∙ (rw (type-again (h .format) fits, lt-leb (h .format) 1 (omega (arith, e))))
-
-  pub length-stops : h .format < 2 → go (at (readerFrom h) (MessageLength 0 3)) ≡ lengthNext (h .room) (h .size) (readerFrom h)
-  unfolding lengthNext fieldLength
-  length-stops e = rw (type-again (h .format) fits, le-leb (h .format) 1 (omega (arith, e)))
-
-  pub length-passes : 2 ≤ h .format → extendedNext (h .room) (h .size) (readerFrom h) ≡ lengthNext (h .room) (h .size) (readerFrom h)
-  unfolding lengthNext fieldLength
-  length-passes e = type-passes e ∙ (rw (type-again (h .format) fits, lt-leb (h .format) 1 (omega (arith, e))))
-
-  pub timestamp-stops : h .format < 3 → go (at (readerFrom h) (InitialTimestamp 0 3)) ≡ timestampNext (h .room) (h .size) (readerFrom h)
-  unfolding timestampNext fieldLength
-  timestamp-stops e = rw (type-again (h .format) fits, le-leb (h .format) 2 (omega (arith, e)))
-
-  pub timestamp-passes : 3 ≤ h .format → extendedNext (h .room) (h .size) (readerFrom h) ≡ timestampNext (h .room) (h .size) (readerFrom h)
-  unfolding timestampNext fieldLength
-  timestamp-passes e = length-passes (omega (arith, e)) ∙ (rw (type-again (h .format) fits, lt-leb (h .format) 2 (omega (arith, e))))
 
 -- a format stands for itself
 pub from-again : (f : ChunkHeaderFormat) → formatFrom (typeOf f) ≡ f

@@ -10,6 +10,7 @@ pub use crate::amounts::wide;
 pub use crate::numbers::Done;
 pub use crate::numbers::Held;
 pub use crate::numbers::HeldRow;
+pub use crate::numbers::format_from;
 pub use crate::numbers::goes;
 pub use crate::numbers::held_in;
 pub use crate::numbers::numbers_of;

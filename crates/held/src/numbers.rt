@@ -5,6 +5,7 @@ ghost use Rattle.byte_machine.specs.Reader.{refuse};
 ghost use Rattle.chunk_header.specs.Table.{typeOf};
 ghost use Rattle.held.specs.Done.{doneOf, goesTo, nothing as Byte·nothing};
 ghost use Rattle.held.specs.Numbers.{formatFrom, heldIn, numbersOf, readerFrom, heldRowAt};
+use chunk_header::ChunkHeaderFormat;
 
 // A row of the table.
 pub struct HeldRow {
@@ -57,6 +58,22 @@ fn held_row(held: &[u32; 24], at: usize) -> HeldRow
 }
 
 // A number over 3 means type 3.
+// The format that a type's number means.
+pub fn format_from(kind: u32) -> ChunkHeaderFormat
+    ensures { λ r. ⌜ r ≡ formatFrom kind ⌝ }
+{
+    if kind == 0 {
+        return ChunkHeaderFormat::Full;
+    }
+    if kind == 1 {
+        return ChunkHeaderFormat::TimeDeltaWithoutMessageStreamId;
+    }
+    if kind == 2 {
+        return ChunkHeaderFormat::TimeDeltaOnly;
+    }
+    ChunkHeaderFormat::Empty
+}
+
 fn type_from(n: u32) -> u32
     ensures { λ r. ⌜ r ≡ typeOf (formatFrom n) ⌝ }
 {

@@ -8,13 +8,17 @@ ghost use Rattle.time.specs.Clock.{sum as Clock·sum};
 ghost use Rattle.chunk_header.specs.Table.{isFull};
 ghost use Rattle.chunk_meaning.specs.Meaning.{firstRefusal, firstTime, laterRefusal, repeats as Meaning·repeats};
 ghost use Rattle.byte_machine.specs.Header.{extendedNext, lengthNext, streamNext, timestampNext, typeNext, whole};
+ghost use Rattle.byte_machine.specs.Header.{lacks as Header·lacks};
 ghost use Rattle.held.specs.Done.{doneOf};
 ghost use Rattle.settling.specs.Opened.{openedTo};
 ghost use Rattle.held.specs.Numbers.{formatFrom, readerFrom, rowFrom};
+use chunk_header::HeaderField;
 use chunk_header::MAX_INITIAL_TIMESTAMP;
+use chunk_header::field_length;
 use held::Done;
 use held::Held;
 use held::HeldRow;
+use held::format_from;
 use held::goes;
 use held::lacking;
 use held::least;
@@ -149,42 +153,54 @@ pub fn extended_next(h: Held) -> Done
     settled(h, h.header.field)
 }
 
+// How many bytes a field has in the chunk at hand.
+fn lacks(h: Held, field: HeaderField) -> u32
+    ensures { λ r. ⌜ r ≡ Header·lacks (readerFrom h) field ⌝ }
+{
+    field_length(format_from(h.format), field)
+}
+
+// Each field comes next, or is passed over where the format does not have it.
 pub fn stream_next(h: Held) -> Done
     requires { ⌜ h .format ≤ 3 ⌝ }
     ensures { λ r. ⌜ r ≡ doneOf h (streamNext (h .room) (h .size) (readerFrom h)) ⌝ }
 {
-    if h.format == 0 {
-        return goes(h, 6, 0, 4);
+    let n = lacks(h, HeaderField::MessageStreamId);
+    if n == 0 {
+        return extended_next(h);
     }
-    extended_next(h)
+    goes(h, 6, 0, n)
 }
 
 pub fn type_next(h: Held) -> Done
     requires { ⌜ h .format ≤ 3 ⌝ }
     ensures { λ r. ⌜ r ≡ doneOf h (typeNext (h .room) (h .size) (readerFrom h)) ⌝ }
 {
-    if h.format < 2 {
-        return goes(h, 5, 0, 0);
+    let n = lacks(h, HeaderField::MessageTypeId);
+    if n == 0 {
+        return stream_next(h);
     }
-    extended_next(h)
+    goes(h, 5, 0, 0)
 }
 
 pub fn length_next(h: Held) -> Done
     requires { ⌜ h .format ≤ 3 ⌝ }
     ensures { λ r. ⌜ r ≡ doneOf h (lengthNext (h .room) (h .size) (readerFrom h)) ⌝ }
 {
-    if h.format < 2 {
-        return goes(h, 4, 0, 3);
+    let n = lacks(h, HeaderField::MessageLength);
+    if n == 0 {
+        return type_next(h);
     }
-    extended_next(h)
+    goes(h, 4, 0, n)
 }
 
 pub fn timestamp_next(h: Held) -> Done
     requires { ⌜ h .format ≤ 3 ⌝ }
     ensures { λ r. ⌜ r ≡ doneOf h (timestampNext (h .room) (h .size) (readerFrom h)) ⌝ }
 {
-    if h.format < 3 {
-        return goes(h, 3, 0, 3);
+    let n = lacks(h, HeaderField::Timestamp);
+    if n == 0 {
+        return length_next(h);
     }
-    extended_next(h)
+    goes(h, 3, 0, n)
 }

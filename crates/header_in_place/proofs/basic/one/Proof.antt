@@ -1,7 +1,7 @@
 -- The low six bits say the id, or that more bytes follow.
 use Prim.Native.Nat.{zero, ℕ, suc, _%_, _<_}
 use mathlib.Core.Bool.{cond}
-use mathlib.Core.Path.{_≡_, refl}
+use mathlib.Core.Path.{_≡_, refl, sym}
 use native.Mathlib.Omega.{arith}
 use lib.Dec.{eqb}
 use borrow.Author.Tests.{ne-eqb}
@@ -17,11 +17,13 @@ one-more (suc (suc n)) h = absurd (omega (arith, h))
 
 returns : tie.Need-returns
 unfolding csid
-returns c = let n = c .before .args .a % 64 in record { first-is = refl; none = λ e. one-more n (c .if1 .taken); some = λ e. absurd (e refl) }
+returns c = sym (one-more (c .before .args .a % 64) (c .if1 .taken))
 
 returns-2 : tie.Need-returns-2
 unfolding csid
-returns-2 c = let n = c .before .args .a % 64 in record { first-is = refl; none = λ e. absurd (omega (arith, e, c .if1 .left)); some = λ e. rw (ne-eqb n 0 (omega (arith, c .if1 .left)), ne-eqb n 1 (omega (arith, c .if1 .left))) }
+returns-2 c =
+    let n = c .before .args .a % 64 in
+    rw (ne-eqb n 0 (omega (arith, c .if1 .left)), ne-eqb n 1 (omega (arith, c .if1 .left)))
 
 pub one-spec : {M : Type 1} → statement M
 one-spec = tie.close (tie.spec returns returns-2)

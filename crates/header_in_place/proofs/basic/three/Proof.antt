@@ -13,7 +13,7 @@ add-id c = search needs
 
 returns : tie.Need-returns
 unfolding csid
-returns c = let n = c .before .args .a % 64 in record { first-is = refl; none = λ e. absurd (omega (arith, e)); some = λ e. rw (eq-eqb n 0 (c .if1 .taken)) }
+returns c = let n = c .before .args .a % 64 in rw (eq-eqb n 0 (c .if1 .taken))
 
 mul-id : tie.Need-mul-id
 mul-id c = search needs
@@ -26,11 +26,11 @@ add-id-3 c = search needs
 
 returns-2 : tie.Need-returns-2
 unfolding csid
-returns-2 c = let n = c .before .before .args .a % 64 in record { first-is = refl; none = λ e. absurd (omega (arith, e)); some = λ e. rw (ne-eqb n 0 (c .before .if1 .left), eq-eqb n 1 (c .if2 .taken)) }
+returns-2 c = let n = c .before .before .args .a % 64 in rw (ne-eqb n 0 (c .before .if1 .left), eq-eqb n 1 (c .if2 .taken))
 
 returns-3 : tie.Need-returns-3
 unfolding csid
-returns-3 c = let n = c .before .before .args .a % 64 in record { first-is = refl; none = λ e. absurd (c .before .if1 .left e); some = λ e. rw (ne-eqb n 0 (c .before .if1 .left), ne-eqb n 1 (c .if2 .left)) }
+returns-3 c = let n = c .before .before .args .a % 64 in rw (ne-eqb n 0 (c .before .if1 .left), ne-eqb n 1 (c .if2 .left))
 
 pub three-spec : {M : Type 1} → statement M
 three-spec = tie.close (tie.spec add-id returns mul-id add-id-2 add-id-3 returns-2 returns-3)

@@ -13,15 +13,15 @@ add-id c = search needs
 
 returns : tie.Need-returns
 unfolding csid
-returns c = let n = c .before .args .a % 64 in record { first-is = refl; none = λ e. absurd (omega (arith, e)); some = λ e. rw (eq-eqb n 0 (c .if1 .taken)) }
+returns c = let n = c .before .args .a % 64 in rw (eq-eqb n 0 (c .if1 .taken))
 
 returns-2 : tie.Need-returns-2
 unfolding csid
-returns-2 c = let n = c .before .before .args .a % 64 in record { first-is = refl; none = λ e. rw (ne-eqb n 0 (c .before .if1 .left), eq-eqb n 1 (c .if2 .taken)); some = λ e. absurd (e refl) }
+returns-2 c = let n = c .before .before .args .a % 64 in rw (ne-eqb n 0 (c .before .if1 .left), eq-eqb n 1 (c .if2 .taken))
 
 returns-3 : tie.Need-returns-3
 unfolding csid
-returns-3 c = let n = c .before .before .args .a % 64 in record { first-is = refl; none = λ e. absurd (c .before .if1 .left e); some = λ e. rw (ne-eqb n 0 (c .before .if1 .left), ne-eqb n 1 (c .if2 .left)) }
+returns-3 c = let n = c .before .before .args .a % 64 in rw (ne-eqb n 0 (c .before .if1 .left), ne-eqb n 1 (c .if2 .left))
 
 pub two-spec : {M : Type 1} → statement M
 two-spec = tie.close (tie.spec add-id returns returns-2 returns-3)

@@ -1,23 +1,41 @@
--- Types 0 and 1 have a length; the others pass it over.
+-- The length comes next, or the type.
 use mathlib.Core.Path.{ap, _∙_}
 use borrow.Author.Needs.{needs}
-use Rattle.byte_machine.specs.Reader.{Stepped, MessageLength}
+use Rattle.chunk_header.specs.declared.HeaderField.the-variants.{MessageLength}
+use Rattle.byte_machine.specs.Header.{typeNext, stageOf, lengthNext}
+use Rattle.byte_machine.specs.Reader.{Stepped}
 use Rattle.held.specs.Done.{doneOf}
-use Rattle.held.proofs.Formats.{goes-at, length-stops, length-passes}
+use Rattle.held.specs.Numbers.{readerFrom}
+use Rattle.held.proofs.Formats.{goes-at}
+use Rattle.settling.proofs.Fields.{passes, stops}
 use Rattle.settling.proofs.settle.length_next.Statement.{statement}
 use Rattle.settling.proofs.settle.length_next.Tie as tie
+
+lacks-requires : tie.Need-lacks-requires
+lacks-requires c κs = search needs
+
+type-next-requires : tie.Need-type-next-requires
+type-next-requires c κs = search needs
+
+returns : tie.Need-returns
+unfolding lengthNext
+returns c =
+    let s = c .before .before .before in
+    let h = s .args .h in
+    let n = c .before .before .lacks in
+    c .type-next .ensures ∙ ap (λ (x : Stepped). doneOf h x) (passes (readerFrom h) MessageLength (typeNext (h .room) (h .size) (readerFrom h)) (n .result) (n .ensures) (c .before .if1 .taken))
 
 goes-requires : tie.Need-goes-requires
 goes-requires c κs = search needs
 
-returns : tie.Need-returns
-returns c = let s = c .before .before .before in c .goes .ensures ∙ goes-at (s .args .h) (s .pre) (MessageLength 0 3) ∙ ap (λ (x : Stepped). doneOf (s .args .h) x) (length-stops (s .args .h) (s .pre) (c .before .if1 .taken))
-
-extended-next-requires : tie.Need-extended-next-requires
-extended-next-requires c κs = search needs
-
 returns-2 : tie.Need-returns-2
-returns-2 c = let s = c .before .before .before in c .extended-next .ensures ∙ ap (λ (x : Stepped). doneOf (s .args .h) x) (length-passes (s .args .h) (s .pre) (c .before .if1 .left))
+unfolding lengthNext
+returns-2 c =
+    let s = c .before .before .before in
+    let h = s .args .h in
+    let n = c .before .before .lacks in
+    c .goes .ensures ∙ goes-at h (s .pre) (stageOf MessageLength (n .result))
+    ∙ ap (λ (x : Stepped). doneOf h x) (stops (readerFrom h) MessageLength (typeNext (h .room) (h .size) (readerFrom h)) (n .result) (n .ensures) (c .before .if1 .left))
 
 pub length-next-spec : {M : Type 1} → statement M
-length-next-spec = tie.close (tie.spec goes-requires returns extended-next-requires returns-2)
+length-next-spec = tie.close (tie.spec lacks-requires type-next-requires returns goes-requires returns-2)

@@ -1,23 +1,41 @@
--- Every type but 3 has a time.
+-- The time comes next, or the length.
 use mathlib.Core.Path.{ap, _∙_}
 use borrow.Author.Needs.{needs}
-use Rattle.byte_machine.specs.Reader.{Stepped, InitialTimestamp}
+use Rattle.chunk_header.specs.declared.HeaderField.the-variants.{Timestamp}
+use Rattle.byte_machine.specs.Header.{lengthNext, stageOf, timestampNext}
+use Rattle.byte_machine.specs.Reader.{Stepped}
 use Rattle.held.specs.Done.{doneOf}
-use Rattle.held.proofs.Formats.{goes-at, timestamp-stops, timestamp-passes}
+use Rattle.held.specs.Numbers.{readerFrom}
+use Rattle.held.proofs.Formats.{goes-at}
+use Rattle.settling.proofs.Fields.{passes, stops}
 use Rattle.settling.proofs.settle.timestamp_next.Statement.{statement}
 use Rattle.settling.proofs.settle.timestamp_next.Tie as tie
+
+lacks-requires : tie.Need-lacks-requires
+lacks-requires c κs = search needs
+
+length-next-requires : tie.Need-length-next-requires
+length-next-requires c κs = search needs
+
+returns : tie.Need-returns
+unfolding timestampNext
+returns c =
+    let s = c .before .before .before in
+    let h = s .args .h in
+    let n = c .before .before .lacks in
+    c .length-next .ensures ∙ ap (λ (x : Stepped). doneOf h x) (passes (readerFrom h) Timestamp (lengthNext (h .room) (h .size) (readerFrom h)) (n .result) (n .ensures) (c .before .if1 .taken))
 
 goes-requires : tie.Need-goes-requires
 goes-requires c κs = search needs
 
-returns : tie.Need-returns
-returns c = let s = c .before .before .before in c .goes .ensures ∙ goes-at (s .args .h) (s .pre) (InitialTimestamp 0 3) ∙ ap (λ (x : Stepped). doneOf (s .args .h) x) (timestamp-stops (s .args .h) (s .pre) (c .before .if1 .taken))
-
-extended-next-requires : tie.Need-extended-next-requires
-extended-next-requires c κs = search needs
-
 returns-2 : tie.Need-returns-2
-returns-2 c = let s = c .before .before .before in c .extended-next .ensures ∙ ap (λ (x : Stepped). doneOf (s .args .h) x) (timestamp-passes (s .args .h) (s .pre) (c .before .if1 .left))
+unfolding timestampNext
+returns-2 c =
+    let s = c .before .before .before in
+    let h = s .args .h in
+    let n = c .before .before .lacks in
+    c .goes .ensures ∙ goes-at h (s .pre) (stageOf Timestamp (n .result))
+    ∙ ap (λ (x : Stepped). doneOf h x) (stops (readerFrom h) Timestamp (lengthNext (h .room) (h .size) (readerFrom h)) (n .result) (n .ensures) (c .before .if1 .left))
 
 pub timestamp-next-spec : {M : Type 1} → statement M
-timestamp-next-spec = tie.close (tie.spec goes-requires returns extended-next-requires returns-2)
+timestamp-next-spec = tie.close (tie.spec lacks-requires length-next-requires returns goes-requires returns-2)
