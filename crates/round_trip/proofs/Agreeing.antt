@@ -4,12 +4,12 @@ use mathlib.Core.Path.{_≡_, refl, sym, ap, _∙_}
 use mathlib.Core.Logic.{_≢_}
 use mathlib.Core.Bool.{Bool, true, false}
 use mathlib.Core.List.{List, []}
-use mathlib.Core.Option.{Option, none, some}
+use mathlib.Core.Option.{none, some}
 use native.Mathlib.Omega.{arith}
 use lib.Dec.{eqb}
 use lib.ListN.{length, getD, set, length-set, getD-replicate}
 use lib.Seq.{getD-set-other, getD-set-same}
-use borrow.Author.Tests.{eq-eqb, eqb-true, eqb-false, le-ltb, ne-eqb}
+use borrow.Author.Tests.{eqb-true, eqb-false, le-ltb, ne-eqb}
 use Rattle.chunk_header.specs.declared.ChunkHeader.{ChunkHeader}
 use Rattle.chunk_header.specs.Header.{nothing}
 use Rattle.serializer.specs.declared.ChunkSerializer.{ChunkSerializer}
@@ -20,8 +20,9 @@ use Rattle.serializer.specs.Remembered.{fresh, previous, remember, rowOf}
 use Rattle.serializer.proofs.Stream.{stream-range}
 use Rattle.deserializer.specs.declared.ChunkDeserializer.{ChunkDeserializer}
 use Rattle.deserializer.specs.Calls.{Ready, by-new}
-use Rattle.deserializer.specs.Told.{made, maxRoom}
-use Rattle.fields.proofs.Tests.{clash}
+use Rattle.deserializer.specs.Told.{between, made, maxRoom}
+use Rattle.byte_machine.specs.Reader.{atStart}
+use Rattle.fields.proofs.Tests.{both, clash, equal, itself}
 use Rattle.stream_meaning.specs.Stream.{Stream}
 use Rattle.stream_meaning.specs.View.{viewed}
 use Rattle.round_trip.proofs.Held.{Spare}
@@ -36,22 +37,12 @@ pub record Knows (h : ChunkHeader) (id : ℕ) (s : Stream) : Type 0 where
 
 pub record Agrees (s : ChunkSerializer) (d : ChunkDeserializer) (buffer : List ℕ) : Type 0 where
   pub ready : Ready d buffer
-  pub message : d .reader .message .id ≡ 0
+  pub between-now : between (d .reader) ≡ true
   pub size : d .«max_chunk_size» ≡ s .«max_chunk_size»
   pub some : 0 < s .«max_chunk_size»
   pub spare : Spare (d .rows)
   pub long : length (s .«previous_headers») ≡ 5
   pub knows : (i : ℕ) → i < 5 → Knows (getD (s .«previous_headers») i nothing) (i + 2) (viewed d buffer (i + 2))
-
--- where no message is seen unfinished, none is
-pub none-unfinished : (d : ChunkDeserializer) (buffer : List ℕ) → ((id : ℕ) → id ≢ 0 → viewed d buffer id .come ≡ none) → d .reader .message .id ≡ 0
-none-unfinished d buffer quiet = by-test (eqb (d .reader .message .id) 0) refl
-  where
-    by-test : (t : Bool) → eqb (d .reader .message .id) 0 ≡ t → d .reader .message .id ≡ 0
-    by-test true e = eqb-true _ _ e
-    by-test false e =
-        let z = rw (eq-eqb (d .reader .message .id) (d .reader .message .id) refl) at (quiet (d .reader .message .id) (eqb-false _ _ e)) in
-        absurd (let q : _≡_ {A = ℕ} 0 1 = cc in omega arith)
 
 module _ (s : ChunkSerializer) (d : ChunkDeserializer) (buffer : List ℕ) (a : Agrees s d buffer) (m : Message) where
   row-less : rowOf m < 5
@@ -66,7 +57,7 @@ module _ (s : ChunkSerializer) (d : ChunkDeserializer) (buffer : List ℕ) (a : 
       let k = a .knows (rowOf m) row-less in
       record {
         ready = a .ready;
-        message = a .message;
+        message = both (itself (atStart (d .reader .stage))) (equal (d .reader .message .id) 0) .yes (a .between-now) .1;
         spare = a .spare;
         knows = λ g. rw row-stream at (k .held (g .stream ∙ sym row-stream) (g .undroppable));
         before = k .time;
@@ -90,7 +81,7 @@ module _ (s : ChunkSerializer) (d : ChunkDeserializer) (buffer : List ℕ) (a : 
   pub left-out : (size : ℕ) → m .«can_be_dropped» ≡ true → m .timestamp .value < 2 ^ 32 → s .«max_chunk_size» ≡ size → Agrees (remember s m size) d buffer
   left-out size drops time e = record {
     ready = a .ready;
-    message = a .message;
+    between-now = a .between-now;
     size = a .size ∙ e;
     some = rw (← e) (a .some);
     spare = a .spare;
@@ -98,33 +89,30 @@ module _ (s : ChunkSerializer) (d : ChunkDeserializer) (buffer : List ℕ) (a : 
     knows = knows-after (viewed d buffer) record { held = λ p q. clash q drops; time = time } (λ i l n. a .knows i l);
   }
 
-  -- after a packet that is kept no message is unfinished
-  module _ {d′ : ChunkDeserializer} {buffer′ : List ℕ} (at : At d buffer (header m (previous s m)) none d′ buffer′) where
-    pub nothing-unfinished : d′ .reader .message .id ≡ 0
-    nothing-unfinished = none-unfinished d′ buffer′ (λ id z. by-id id z (eqb id (chunkStream (m .«type_id»))) refl)
-      where
-        by-id : (id : ℕ) → id ≢ 0 → (t : Bool) → eqb id (chunkStream (m .«type_id»)) ≡ t → viewed d′ buffer′ id .come ≡ none
-        by-id id z true e = rw (eqb-true id (chunkStream (m .«type_id»)) e) (ap (λ (x : Stream). x .come) (at .mine))
-        by-id id z false e = ap (λ (x : Stream). x .come) (at .others id z (eqb-false _ _ e)) ∙ (rw (ne-eqb (d .reader .message .id) id (λ q. z (sym q ∙ a .message))))
-
-    -- and encoder and decoder agree, with a chunk size from then on
-    pub handed-over : (d″ : ChunkDeserializer) (size : ℕ) → Ready d″ buffer′ → d″ .reader ≡ d′ .reader → d″ .rows ≡ d′ .rows → d″ .«max_chunk_size» ≡ size → 0 < size
-        → m .timestamp .value < 2 ^ 32
-        → Agrees (remember s m size) d″ buffer′
-    handed-over d″ size ready reader rows e positive time = record {
-      ready = ready;
-      message = rw reader nothing-unfinished;
-      size = e;
-      some = positive;
-      spare = rw rows (at .spare (a .spare));
-      long = length-set (s .«previous_headers») (rowOf m) (header m (previous s m)) ∙ a .long;
-      knows = rw (reader, rows)
-          (knows-after (viewed d′ buffer′) record { held = λ p q. rw row-stream (ap (λ (x : Stream). x .stored) (at .mine)); time = time }
-          (λ i l n. record {
-            held = λ p q. ap (λ (x : Stream). x .stored) (at .others (i + 2) (λ e. omega (arith, e)) (λ e. n (omega (arith, e, row-stream)))) ∙ a .knows i l .held p q;
-            time = a .knows i l .time;
-          }));
-    }
+  -- a packet that is kept, and a chunk size from then on
+  pub handed-over : (d′ : ChunkDeserializer) (buffer′ : List ℕ) (size : ℕ) → At d buffer (header m (previous s m)) none d′ buffer′ → between (d′ .reader) ≡ true
+      → (d″ : ChunkDeserializer)
+      → Ready d″ buffer′
+      → d″ .reader ≡ d′ .reader
+      → d″ .rows ≡ d′ .rows
+      → d″ .«max_chunk_size» ≡ size
+      → 0 < size
+      → m .timestamp .value < 2 ^ 32
+      → Agrees (remember s m size) d″ buffer′
+  handed-over d′ buffer′ size at ended d″ ready reader rows e positive time = record {
+    ready = ready;
+    between-now = rw reader ended;
+    size = e;
+    some = positive;
+    spare = rw rows (at .spare (a .spare));
+    long = length-set (s .«previous_headers») (rowOf m) (header m (previous s m)) ∙ a .long;
+    knows = rw (reader, rows)
+        (knows-after (viewed d′ buffer′) record { held = λ p q. rw row-stream (ap (λ (x : Stream). x .stored) (at .mine)); time = time }
+        (λ i l n. record {
+          held = λ p q. ap (λ (x : Stream). x .stored) (at .others (i + 2) (λ e. omega (arith, e)) (λ e. n (omega (arith, e, row-stream)))) ∙ a .knows i l .held p q;
+          time = a .knows i l .time;
+        }));
+  }
 
 -- a fresh encoder and a fresh decoder agree
 pub fresh-agree : (room : ℕ) (buffer : List ℕ) → 1 ≤ room → room ≤ maxRoom → room ≤ length buffer → Agrees fresh (made room .deserializer) buffer
@@ -133,7 +121,7 @@ fresh-agree room buffer p q l =
     let m = by-new room in
     rw (ne-eqb room 0 (omega (arith, p)), le-ltb maxRoom room q) record {
       ready = record { by-calls = rw (ne-eqb room 0 (omega (arith, p)), le-ltb maxRoom room q) at m; open-still = refl; between-chunks = refl; long = l };
-      message = refl;
+      between-now = refl;
       size = refl;
       some = omega arith;
       spare = record { ids = []; lists = record { each = λ i h. getD-replicate {A = ℕ} 384 (6 * i) 0 0 (omega (arith, h)); used = λ i h. absurd (omega (arith, h)); most = omega arith }; few = omega arith };

@@ -1,13 +1,15 @@
 -- The first chunk of a message is taken: where it leaves a number out, what was said last on its stream says it.
 use Prim.Native.Nat.{ℕ, _-_, _^_, _≤_, _<_, min}
 use mathlib.Core.Path.{_≡_, refl, sym, ap, _∙_}
-use mathlib.Core.Bool.{Bool, true, false, cond, not, _&&_, _||_, and-false}
+use mathlib.Core.Bool.{Bool, true, false, _&&_, and-false}
+use mathlib.Core.Logic.{inl, inr}
 use mathlib.Core.List.{List}
 use mathlib.Core.Option.{none, some}
 use native.Mathlib.Omega.{arith}
 use lib.Dec.{ltb, eqb}
 use lib.ListN.{length}
-use borrow.Author.Tests.{eq-eqb, ne-eqb, eqb-true, le-ltb, lt-ltb, ltb-true}
+use borrow.Author.Tests.{eq-eqb, ne-eqb, le-ltb, lt-ltb, ltb-true}
+use Rattle.fields.proofs.Tests.{equal, itself, not-decides, not-not, one-of, tested}
 use Rattle.time.specs.Clock.{sum}
 use Rattle.time.proofs.Laws.{sum-comm, sum-difference}
 use Rattle.chunk_header.specs.declared.ChunkHeader.{ChunkHeader}
@@ -37,17 +39,11 @@ use Rattle.round_trip.proofs.Wire.{Fits, Says, Taken, extended-there, f
 first-taken : (f : ChunkHeaderFormat) (r : Row) (field room : ℕ) → r .«timestamp_field» ≡ min field maxField → r .«message_length» ≤ room
     → firstRefusal f r field room ≡ 0
 unfolding firstRefusal
-first-taken f r field room e h = rw (le-ltb room (r .«message_length») h) (by-cases (ltb field maxField) refl (isFull f))
+first-taken f r field room e h = rw (by-cases (ltb field maxField) refl, and-false, le-ltb room (r .«message_length») h)
   where
-    by-cases : (t : Bool) → ltb field maxField ≡ t → (u : Bool) → _≡_ {A = ℕ} (cond (not u && (eqb (r .«timestamp_field») maxField && t)) 13 0) 0
-    by-cases true q true = refl
-    by-cases true q false = rw (ne-eqb (r .«timestamp_field») maxField (λ z. omega (arith, z, e, ltb-true field maxField q)))
-    by-cases false q true = refl
-    by-cases false q false = by-field (eqb (r .«timestamp_field») maxField)
-      where
-        by-field : (v : Bool) → _≡_ {A = ℕ} (cond (v && false) 13 0) 0
-        by-field true = refl
-        by-field false = refl
+    by-cases : (t : Bool) → ltb field maxField ≡ t → (eqb (r .«timestamp_field») maxField && ltb field maxField) ≡ false
+    by-cases true q = rw (ne-eqb (r .«timestamp_field») maxField (λ z. omega (arith, z, e, ltb-true field maxField q)))
+    by-cases false q = rw (q, and-false)
 
 -- what is remembered of a stream is not droppable, and the message goes on the same message stream
 pub record Goes-on (m : Message) (previous : ChunkHeader) : Type 0 where
@@ -64,44 +60,25 @@ pub data Chosen (m : Message) (previous : ChunkHeader) : ChunkHeaderFormat → T
       → delta m previous ≡ previous .«timestamp_field»
       → Chosen m previous Empty
 
+not-true : {t : Bool} → ¬ (t ≡ true) → t ≡ false
+not-true {t = true} n = absurd (n refl)
+not-true {t = false} n = refl
+
 pub chosen : (m : Message) (previous : ChunkHeader) → Chosen m previous (format m previous)
 unfolding format
 chosen m previous =
-    by-tests (m .«force_uncompressed») (eqb (previous .«chunk_stream_id») (chunkStream (m .«type_id»))) (previous .«can_be_dropped»)
-    (eqb (m .«stream_id») (previous .«message_stream_id»))
-    (eqb (m .«type_id») (previous .«message_type_id»))
-    (eqb (m .length) (previous .«message_length»))
-    (eqb (delta m previous) (previous .«timestamp_field»))
-    refl
-    refl
-    refl
-    refl
-    refl
-    refl
-  where
-    goes-on : eqb (previous .«chunk_stream_id») (chunkStream (m .«type_id»)) ≡ true → previous .«can_be_dropped» ≡ false
-        → eqb (m .«stream_id») (previous .«message_stream_id») ≡ true
-        → Goes-on m previous
-    goes-on r u s = record { stream = eqb-true _ _ r; undroppable = u; same = eqb-true _ _ s }
-
-    by-tests : (forced remembered dropped stream type length field : Bool)
-        → eqb (previous .«chunk_stream_id») (chunkStream (m .«type_id»)) ≡ remembered
-        → previous .«can_be_dropped» ≡ dropped
-        → eqb (m .«stream_id») (previous .«message_stream_id») ≡ stream
-        → eqb (m .«type_id») (previous .«message_type_id») ≡ type
-        → eqb (m .length) (previous .«message_length») ≡ length
-        → eqb (delta m previous) (previous .«timestamp_field») ≡ field
-        → Chosen m previous
-        (cond (forced || (not remembered || dropped)) Full
-        (cond (not stream) Full (cond (not type || not length) TimeDeltaWithoutMessageStreamId (cond (not field) TimeDeltaOnly Empty))))
-    by-tests true r u s t l f a b c d e g = full
-    by-tests false false u s t l f a b c d e g = full
-    by-tests false true true s t l f a b c d e g = full
-    by-tests false true false false t l f a b c d e g = full
-    by-tests false true false true false l f a b c d e g = without-stream (goes-on a b c)
-    by-tests false true false true true false f a b c d e g = without-stream (goes-on a b c)
-    by-tests false true false true true true false a b c d e g = delta-only (goes-on a b c) (eqb-true _ _ d) (eqb-true _ _ e)
-    by-tests false true false true true true true a b c d e g = empty (goes-on a b c) (eqb-true _ _ d) (eqb-true _ _ e) (eqb-true _ _ g)
+    let remembered = equal (previous .«chunk_stream_id») (chunkStream (m .«type_id»)) in
+    let stream = equal (m .«stream_id») (previous .«message_stream_id») in
+    let type = equal (m .«type_id») (previous .«message_type_id») in
+    let length = equal (m .length) (previous .«message_length») in
+    let field = equal (delta m previous) (previous .«timestamp_field») in
+    tested (Chosen m previous) (one-of (itself (m .«force_uncompressed»)) (one-of (not-decides remembered) (itself (previous .«can_be_dropped»)))) (λ p. full)
+    (λ n. tested (Chosen m previous) (not-decides stream) (λ p. full)
+    (λ s. let g : Goes-on m previous = record { stream = not-not remembered (λ z. n (inr (inl z))); undroppable = not-true (λ z. n (inr (inr z))); same = not-not stream s } in
+    tested (Chosen m previous) (one-of (not-decides type) (not-decides length)) (λ p. without-stream g)
+    (λ t. let a = not-not type (λ z. t (inl z)) in
+    let b = not-not length (λ z. t (inr z)) in
+    tested (Chosen m previous) (not-decides field) (λ p. delta-only g a b) (λ f. empty g a b (not-not field f)))))
 
 -- a first chunk to its stream, on which no message is unfinished, and which has what is remembered where the message goes on
 module _ (m : Message) (previous : ChunkHeader) (piece : List ℕ) where

@@ -12,28 +12,24 @@ use Rattle.serializer.specs.Answer.{refused as not-written}
 use Rattle.serializer.specs.Header.{header}
 use Rattle.serializer.specs.Remembered.{fresh, packetOf, previous, remember}
 use Rattle.deserializer.specs.declared.ChunkDeserializer.{ChunkDeserializer}
-use Rattle.byte_machine.specs.declared.reader.Reader.{Reader}
-use Rattle.byte_machine.specs.declared.reader.Stage.the-variants.{Csid}
 use Rattle.deserializer.specs.Answer.{Listed, message as found}
 use Rattle.deserializer.specs.Call.{Outcome, next, outcome, run}
 use Rattle.deserializer.specs.Calls.{Ready, after-size}
 use Rattle.deserializer.specs.Told.{between, outcome as telling, sized, taken, told, maxRoom, made}
 use Rattle.chunk_header.specs.Limits.{maxSize}
+use Rattle.deserializer.proofs.Reached.{made-reaches}
 use Rattle.deserializer.proofs.Runs.{next-runs}
+use Rattle.deserializer.proofs.Standing.{run-stood}
 use Rattle.fields.proofs.Tests.{never}
 use Rattle.stream_meaning.specs.Stream.{Message}
 use Rattle.round_trip.specs.Demand3.{Call, InRange, LeavesOutDroppable, Packet, Ranged, Sending, bytes, encodes, keep, kept, longest, mayBeLeftOut, message, messageOf, resize, send, tellOf}
 use Rattle.laws.specs.Walk.{tells}
-use Rattle.round_trip.proofs.Agreeing.{Agrees, awake, fresh-agree, handed-over, left-out, nothing-unfinished}
+use Rattle.round_trip.proofs.Agreeing.{Agrees, awake, fresh-agree, handed-over, left-out}
 use Rattle.round_trip.proofs.Packets.{packet-reads}
 use Rattle.round_trip.proofs.Reading.{Reads}
 use Rattle.round_trip.proofs.Receiving.{sizeOf}
 use Rattle.round_trip.proofs.Sent.{Accepted, Answers, Taken, accepts, answers, body, encoded, fits, long-as, refuses, sizeAfter, time-less}
 use Rattle.round_trip.proofs.Taking.{At}
-
--- between messages
-is-between : (r : Reader) → r .stage ≡ Csid → r .message .id ≡ 0 → between r ≡ true
-is-between r s m = rw (s, eq-eqb (r .message .id) 0 m)
 
 -- a size told between messages is taken
 told-taken : (d : ChunkDeserializer) (size : ℕ) → d .closed ≡ 0 → 0 < size → size ≤ maxSize → between (d .reader) ≡ true → told d size ≡ telling taken (sized d size)
@@ -70,20 +66,21 @@ record Tells (s : ChunkSerializer) (c : Call) (d : ChunkDeserializer) (buffer : 
 
 tells-on : (s : ChunkSerializer) (d : ChunkDeserializer) (buffer : List ℕ) (c : Call) (d′ : ChunkDeserializer) (buffer′ : List ℕ) → Agrees s d buffer → Taken c → Ranged c
     → At d buffer (header (encoded c) (previous s (encoded c))) none d′ buffer′
+    → between (d′ .reader) ≡ true
     → Tells s c d′ buffer′
-tells-on s d buffer (send type stream time payload forced droppable output) d′ buffer′ a t r at = record {
+tells-on s d buffer (send type stream time payload forced droppable output) d′ buffer′ a t r at ended = record {
   takes = refl;
-  agrees = handed-over s d buffer a _ at d′ (s .«max_chunk_size») (at .ready) refl refl (at .size ∙ a .size) (a .some) (r .2);
+  agrees = handed-over s d buffer a _ d′ buffer′ (s .«max_chunk_size») at ended d′ (at .ready) refl refl (at .size ∙ a .size) (a .some) (r .2);
   room = refl;
 }
-tells-on s d buffer (resize size time output) d′ buffer′ a t r at =
+tells-on s d buffer (resize size time output) d′ buffer′ a t r at ended =
     let k = at .ready in
-    let e = told-taken d′ size (k .open-still) (t .0) (t .1) (is-between (d′ .reader) (k .between-chunks) (nothing-unfinished s d buffer a _ at)) in
+    let e = told-taken d′ size (k .open-still) (t .0) (t .1) ended in
     let made-so = after-size (k .by-calls) size in
     let ready : Ready (sized d′ size) buffer′ = record { by-calls = rw e at made-so; open-still = k .open-still; between-chunks = k .between-chunks; long = k .long } in
     record {
       takes = rw e;
-      agrees = rw e (handed-over s d buffer a _ at (sized d′ size) size ready refl refl refl (t .0) r);
+      agrees = rw e (handed-over s d buffer a _ d′ buffer′ size at ended (sized d′ size) ready refl refl refl (t .0) r);
       room = rw e;
     }
 
@@ -111,15 +108,17 @@ module _ (s : ChunkSerializer) (d : ChunkDeserializer) (c : Call) (buffer : List
       let w = reads in
       let k = a .ready in
       let after : Outcome = next d (p .bytes) buffer in
-      let t = tells-on s d buffer c (after .deserializer) (after .payload) a (o .size) r (w .at) in
+      let runs : after ≡ run (p .bytes) d buffer 0 = next-runs d (p .bytes) buffer (k .open-still) (k .long) in
+      let stood = run-stood (p .bytes) d buffer 0 (made-reaches (k .by-calls)) .handed _ _ _ _ _ (rw runs at (w .answer)) in
+      let t = tells-on s d buffer c (after .deserializer) (after .payload) a (o .size) r (w .at) (rw runs (stood .0)) in
       record {
         open-still = k .open-still;
-        between-now = is-between (d .reader) (k .between-chunks) (a .message);
+        between-now = a .between-now;
         long = k .long;
         length-of = length (body c);
         decoder = after .deserializer;
         buffer-after = after .payload;
-        runs = rw (message-is c) (sym (next-runs d (p .bytes) buffer (k .open-still) (k .long)) ∙ ap (λ (l : Listed). outcome l (after .deserializer) (after .payload)) (w .answer));
+        runs = rw (message-is c) (sym runs ∙ ap (λ (l : Listed). outcome l (after .deserializer) (after .payload)) (w .answer));
         payload = rw (message-is c) (w .holds);
         takes = t .takes;
         then = then _ _ (t .agrees) (t .room ∙ w .at .room);
@@ -180,7 +179,7 @@ module _ (c : Call) (xs : List Sending) (r : Ranged c) (later : Kept xs) (s : Ch
   call-comes t e (accepts o) = subst Come (sym (kept-sent s c t xs o)) (sent-comes t e o)
 
 kept-comes : (xs : List Sending) → InRange xs → LeavesOutDroppable xs → Kept xs
-kept-comes [] r l s d buffer a fit = (a .ready .open-still, a .ready .long, is-between (d .reader) (a .ready .between-chunks) (a .message))
+kept-comes [] r l s d buffer a fit = (a .ready .open-still, a .ready .long, a .between-now)
 kept-comes (x ∷ xs) r l s d buffer a fit = call-comes (x .call) xs (r .0) (kept-comes xs (r .1) (l .1)) s d buffer a (x .kept) (l .0) (answers s (x .call)) fit
 
 made-room : (room : ℕ) → 1 ≤ room → room ≤ maxRoom → made room .deserializer .room ≡ room
