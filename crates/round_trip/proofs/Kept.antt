@@ -22,12 +22,10 @@ use Rattle.deserializer.proofs.Runs.{next-runs}
 use Rattle.deserializer.proofs.Standing.{run-stood}
 use Rattle.fields.proofs.Tests.{never}
 use Rattle.stream_meaning.specs.Stream.{Message}
-use Rattle.round_trip.specs.Demand3.{Call, InRange, LeavesOutDroppable, Packet, Ranged, Sending, bytes, encodes, keep, kept, longest, mayBeLeftOut, message, messageOf, resize, send, tellOf}
-use Rattle.laws.specs.Walk.{tells}
+use Rattle.round_trip.specs.Demand3.{Call, InRange, LeavesOutDroppable, Packet, Ranged, Sending, Tell, encodes, keep, kept, longest, mayBeLeftOut, message, messageOf, resize, send, tellFirst, tellOf}
 use Rattle.round_trip.proofs.Agreeing.{Agrees, awake, fresh-agree, handed-over, left-out}
 use Rattle.round_trip.proofs.Packets.{packet-reads}
 use Rattle.round_trip.proofs.Reading.{Reads}
-use Rattle.round_trip.proofs.Receiving.{sizeOf}
 use Rattle.round_trip.proofs.Sent.{Accepted, Answers, Taken, accepts, answers, body, encoded, fits, long-as, refuses, sizeAfter, time-less}
 use Rattle.round_trip.proofs.Taking.{At}
 
@@ -40,36 +38,42 @@ told-taken d size c p q b = rw (eq-eqb (d .closed) 0 c, ne-eqb size 0 (omega (ar
 abbrev packetFor : ChunkSerializer → Call → Packet
 packetFor s c = record { bytes = packetOf s (encoded c) (body c); message = messageOf c; tell = tellOf c }
 
--- a packet is to come to a decoder, alone or with others after it, and then what is to come after it
+-- a packet is to come to a decoder between messages, and then what is to come after it
 pub record Coming (p : Packet) (Then : ChunkDeserializer → List ℕ → Type 0) (d : ChunkDeserializer) (buffer : List ℕ) : Type 0 where
-  pub open-still : d .closed ≡ 0
+  pub ready : Ready d buffer
   pub between-now : between (d .reader) ≡ true
-  pub long : d .room ≤ length buffer
   pub length-of : ℕ
   pub decoder : ChunkDeserializer
   pub buffer-after : List ℕ
-  pub runs : run (p .bytes) d buffer 0
+  pub calls : next d (p .bytes) buffer
       ≡ outcome (found (p .message .type) (p .message .stream) (p .message .time) length-of (length (p .bytes))) decoder buffer-after
   pub payload : take length-of buffer-after ≡ p .message .payload
-  pub takes : tells (sizeOf (p .tell)) decoder .answer ≡ taken
-  pub then : Then (tells (sizeOf (p .tell)) decoder .deserializer) buffer-after
+  pub told-to : ChunkDeserializer
+  pub tells-it : (later : List Tell) → tellFirst (p .tell ∷ later) decoder ≡ telling taken told-to
+  pub then : Then told-to buffer-after
 
 abbrev pub Awaits : List Packet → ChunkDeserializer → List ℕ → Type 0
-Awaits [] d buffer = (d .closed ≡ 0) × (d .room ≤ length buffer) × (between (d .reader) ≡ true)
+Awaits [] d buffer = Ready d buffer × (between (d .reader) ≡ true)
 Awaits (p ∷ ps) d buffer = Coming p (Awaits ps) d buffer
+
+pub awaits-ready : (packets : List Packet) {d : ChunkDeserializer} {buffer : List ℕ} → Awaits packets d buffer → Ready d buffer × (between (d .reader) ≡ true)
+awaits-ready [] a = a
+awaits-ready (p ∷ ps) c = (c .ready, c .between-now)
 
 -- what is told after a packet's message is taken, and leaves encoder and decoder agreeing
 record Tells (s : ChunkSerializer) (c : Call) (d : ChunkDeserializer) (buffer : List ℕ) : Type 0 where
-  takes : tells (sizeOf (tellOf c)) d .answer ≡ taken
-  agrees : Agrees (remember s (encoded c) (sizeAfter s c)) (tells (sizeOf (tellOf c)) d .deserializer) buffer
-  room : tells (sizeOf (tellOf c)) d .deserializer .room ≡ d .room
+  told-to : ChunkDeserializer
+  tells-it : (later : List Tell) → tellFirst (tellOf c ∷ later) d ≡ telling taken told-to
+  agrees : Agrees (remember s (encoded c) (sizeAfter s c)) told-to buffer
+  room : told-to .room ≡ d .room
 
 tells-on : (s : ChunkSerializer) (d : ChunkDeserializer) (buffer : List ℕ) (c : Call) (d′ : ChunkDeserializer) (buffer′ : List ℕ) → Agrees s d buffer → Taken c → Ranged c
     → At d buffer (header (encoded c) (previous s (encoded c))) none d′ buffer′
     → between (d′ .reader) ≡ true
     → Tells s c d′ buffer′
 tells-on s d buffer (send type stream time payload forced droppable output) d′ buffer′ a t r at ended = record {
-  takes = refl;
+  told-to = d′;
+  tells-it = λ later. refl;
   agrees = handed-over s d buffer a _ d′ buffer′ (s .«max_chunk_size») at ended d′ (at .ready) refl refl (at .size ∙ a .size) (a .some) (r .2);
   room = refl;
 }
@@ -79,9 +83,10 @@ tells-on s d buffer (resize size time output) d′ buffer′ a t r at ended =
     let made-so = after-size (k .by-calls) size in
     let ready : Ready (sized d′ size) buffer′ = record { by-calls = rw e at made-so; open-still = k .open-still; between-chunks = k .between-chunks; long = k .long } in
     record {
-      takes = rw e;
-      agrees = rw e (handed-over s d buffer a _ d′ buffer′ size at ended (sized d′ size) ready refl refl refl (t .0) r);
-      room = rw e;
+      told-to = sized d′ size;
+      tells-it = λ later. e;
+      agrees = handed-over s d buffer a _ d′ buffer′ size at ended (sized d′ size) ready refl refl refl (t .0) r;
+      room = refl;
     }
 
 -- the message of a call, by the numbers that are encoded
@@ -112,15 +117,15 @@ module _ (s : ChunkSerializer) (d : ChunkDeserializer) (c : Call) (buffer : List
       let stood = run-stood (p .bytes) d buffer 0 (made-reaches (k .by-calls)) .handed _ _ _ _ _ (rw runs at (w .answer)) in
       let t = tells-on s d buffer c (after .deserializer) (after .payload) a (o .size) r (w .at) (rw runs (stood .0)) in
       record {
-        open-still = k .open-still;
+        ready = k;
         between-now = a .between-now;
-        long = k .long;
         length-of = length (body c);
         decoder = after .deserializer;
         buffer-after = after .payload;
-        runs = rw (message-is c) (sym runs ∙ ap (λ (l : Listed). outcome l (after .deserializer) (after .payload)) (w .answer));
+        calls = rw (message-is c) (ap (λ (l : Listed). outcome l (after .deserializer) (after .payload)) (w .answer));
         payload = rw (message-is c) (w .holds);
-        takes = t .takes;
+        told-to = t .told-to;
+        tells-it = t .tells-it;
         then = then _ _ (t .agrees) (t .room ∙ w .at .room);
       }
 
@@ -179,7 +184,7 @@ module _ (c : Call) (xs : List Sending) (r : Ranged c) (later : Kept xs) (s : Ch
   call-comes t e (accepts o) = subst Come (sym (kept-sent s c t xs o)) (sent-comes t e o)
 
 kept-comes : (xs : List Sending) → InRange xs → LeavesOutDroppable xs → Kept xs
-kept-comes [] r l s d buffer a fit = (a .ready .open-still, a .ready .long, a .between-now)
+kept-comes [] r l s d buffer a fit = (a .ready, a .between-now)
 kept-comes (x ∷ xs) r l s d buffer a fit = call-comes (x .call) xs (r .0) (kept-comes xs (r .1) (l .1)) s d buffer a (x .kept) (l .0) (answers s (x .call)) fit
 
 made-room : (room : ℕ) → 1 ≤ room → room ≤ maxRoom → made room .deserializer .room ≡ room
