@@ -6,14 +6,14 @@ use mathlib.Core.Path.{_≡_, refl, sym, ap, _∙_}
 use native.Mathlib.Omega.{arith}
 use lib.ListN.{length, take, drop, drop-of-length-le}
 use lib.Seq.{drop-append-seam}
-use borrow.Author.Tests.{le-leb, leb-true}
+use borrow.Author.Tests.{leb-true}
 use Rattle.serializer.specs.Remembered.{fresh}
 use Rattle.deserializer.specs.Call.{Outcome, next, run}
 use Rattle.deserializer.specs.Told.{between, made}
 use Rattle.deserializer.proofs.Cut.{message-not-more}
 use Rattle.deserializer.proofs.Runs.{next-runs}
 use Rattle.round_trip.specs.Breaking.{Breaking, Breaks, brokenAfter, hasArrived, whole}
-use Rattle.round_trip.specs.Demand3.{Note, Packet, Receiver, after, bytes, handed, kept, last, log, offers, receiver}
+use Rattle.round_trip.specs.Demand3.{Note, Packet, Receiver, after, bytes, handed, kept, last, log, receiver}
 use Rattle.round_trip.proofs.Going.{Going, Step, asks, hands, ready, starts, step, take-past, whatever-follows}
 use Rattle.round_trip.proofs.Kept.{Awaits, awaits-ready, kept-awaited}
 use Rattle.round_trip.proofs.Receiving.{Always, uses-all}
@@ -39,15 +39,14 @@ by-step : {packets : List Packet} {n k : ℕ} {r : Receiver} {ns : List ℕ} →
 by-step {packets} {n} (asks e g) later =
     let w = later packets n g in
     record { left = w .left; arrive = w .arrive; going = w .going; logged = rw e (w .logged); between-two = w .between-two }
-by-step {n = n} (hands {p} {ps} h e g) later =
+by-step {n = n} (hands {p} {ps} t e g) later =
     let w = later ps (n - length (p .bytes)) g in
-    let t = le-leb (length (p .bytes)) n h in
     record {
       left = w .left;
       arrive = w .arrive;
       going = w .going;
       logged = rw (e, t) (ap (λ (l : List Note). handed (p .message) ∷ l) (w .logged));
-      between-two = λ q. w .between-two (both-begin (p .bytes) _ _ ((rw t at q) ∙ take-past n (p .bytes) (bytes ps) h));
+      between-two = λ q. w .between-two (both-begin (p .bytes) _ _ ((rw t at q) ∙ take-past n (p .bytes) (bytes ps) (leb-true _ n t)));
     }
 
 gone : (ns : List ℕ) (packets : List Packet) (n : ℕ) (r : Receiver) → Going packets n r → Gone packets n r ns

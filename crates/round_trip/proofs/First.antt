@@ -1,5 +1,5 @@
 -- The first chunk of a message is taken: where it leaves a number out, what was said last on its stream says it.
-use Prim.Native.Nat.{ℕ, _-_, _^_, _≤_, _<_, min}
+use Prim.Native.Nat.{ℕ, _^_, _≤_, _<_, min}
 use mathlib.Core.Path.{_≡_, refl, sym, ap, _∙_}
 use mathlib.Core.Bool.{Bool, true, false, _&&_, and-false}
 use mathlib.Core.Logic.{inl, inr}
@@ -17,7 +17,6 @@ use Rattle.chunk_header.specs.declared.ChunkHeaderFormat.{ChunkHeaderFormat}
 use Rattle.chunk_header.specs.declared.ChunkHeaderFormat.the-variants.{Full, TimeDeltaWithoutMessageStreamId, TimeDeltaOnly, Empty}
 use Rattle.chunk_header.specs.Layout.{Chunk}
 use Rattle.chunk_header.specs.Limits.{maxField}
-use Rattle.chunk_header.specs.Table.{isFull}
 use Rattle.serializer.specs.declared.format.Message.{Message}
 use Rattle.serializer.specs.Header.{delta, format, headerBy}
 use Rattle.serializer.specs.Message.{chunkStream}
@@ -27,7 +26,7 @@ use Rattle.chunk_meaning.specs.declared.Row.{Row}
 use Rattle.chunk_meaning.specs.Meaning.{firstRefusal, basicRefusal}
 use Rattle.byte_machine.specs.Rows.{free}
 use Rattle.deserializer.specs.declared.ChunkDeserializer.{ChunkDeserializer}
-use Rattle.deserializer.specs.Chunk.{basicRefused, header, headerRefused}
+use Rattle.deserializer.specs.Chunk.{basicRefused, header}
 use Rattle.stream_meaning.specs.Stream.{Said, Stream, saying}
 use Rattle.stream_meaning.specs.Stream.{Fits as FitsStream}
 use Rattle.stream_meaning.specs.View.{viewed}

@@ -8,7 +8,7 @@ use native.Mathlib.Omega.{arith}
 use lib.Dec.{ltb}
 use lib.ListN.{length, take, drop, length-append, length-take, take-append-drop}
 use lib.Seq.{drop-append-add, drop-append-seam, take-append-add, take-append-le, take-append-seam, take-nil}
-use borrow.Author.Tests.{ltb-false, ltb-true}
+use borrow.Author.Tests.{le-leb, ltb-false, ltb-true}
 use Rattle.deserializer.specs.declared.ChunkDeserializer.{ChunkDeserializer}
 use Rattle.deserializer.specs.Answer.{Listed, message as found, more, refused as not-read, used}
 use Rattle.deserializer.specs.Call.{Outcome, next, outcome, run}
@@ -17,6 +17,7 @@ use Rattle.deserializer.proofs.Cut.{feed-answered, feed-append, message-not-mor
 use Rattle.deserializer.proofs.Progress.{more-uses-all, run-uses}
 use Rattle.deserializer.proofs.Runs.{next-runs}
 use Rattle.deserializer.proofs.Standing.{refused-not-message}
+use Rattle.round_trip.specs.Breaking.{hasArrived}
 use Rattle.round_trip.specs.Demand3.{Packet, Receiver, Tell, after, afterOf, bytes, handed, message, notes, notesOf, offered, refusals, tail, tellFirst}
 use Rattle.round_trip.proofs.Kept.{Awaits, Coming, awaits-ready}
 use Rattle.round_trip.proofs.Receiving.{Ready}
@@ -34,7 +35,7 @@ pub record Going (packets : List Packet) (n : ℕ) (r : Receiver) : Type 0 where
 -- a call asks for more, or hands out the first packet's message
 pub data Step (n : ℕ) (r : Receiver) (k : ℕ) : List Packet → Type 0 where
   asks : {packets : List Packet} → notes r k ≡ [] → Going packets n (after r k) → Step n r k packets
-  hands : {p : Packet} {ps : List Packet} → length (p .bytes) ≤ n → notes r k ≡ handed (p .message) ∷ [] → Going ps (n - length (p .bytes)) (after r k)
+  hands : {p : Packet} {ps : List Packet} → hasArrived n p ≡ true → notes r k ≡ handed (p .message) ∷ [] → Going ps (n - length (p .bytes)) (after r k)
       → Step n r k (p ∷ ps)
 
 -- a decoder that awaits packets, and to which nothing of the first has come
@@ -211,7 +212,7 @@ module _ {p : Packet} {ps : List Packet} {n : ℕ} {r : Receiver} (g : Going (p 
           ∙ (rw counts (drop-append-seam (p .bytes) (take (n - length (p .bytes)) (bytes ps))))
 
       handed-step : Step n r k (p ∷ ps)
-      handed-step = hands arrived notes-are (subst (Going ps (n - length (p .bytes))) (sym after-is) (starts ps (n - length (p .bytes)) r′ (c .then) left-unread refl))
+      handed-step = hands {p = p} (le-leb _ n (omega (arith, arrived))) notes-are (subst (Going ps (n - length (p .bytes))) (sym after-is) (starts ps (n - length (p .bytes)) r′ (c .then) left-unread refl))
 
     whole-step : Step n r k (p ∷ ps)
     whole-step = let w = unshift (length (g .part)) (o g k) answered in handed-step (w .0) (w .1 .0) (w .1 .1)

@@ -1,5 +1,5 @@
 -- A packet is read back: its chunks, one after the other, hand out its message.
-use Prim.Native.Nat.{ℕ, zero, suc, _+_, _-_, _≤_, _<_, min}
+use Prim.Native.Nat.{ℕ, zero, suc, _+_, _≤_, _<_, min}
 use mathlib.Core.Path.{_≡_, refl, sym, ap, subst, _∙_}
 use mathlib.Core.Bool.{Bool, true, false}
 use mathlib.Core.List.{List, [], _++_, append-assoc, append-nil}
@@ -19,7 +19,7 @@ use Rattle.deserializer.specs.declared.ChunkDeserializer.{ChunkDeserializer}
 use Rattle.deserializer.specs.Answer.{message as found, more}
 use Rattle.deserializer.specs.Call.{Outcome, next}
 use Rattle.deserializer.specs.Calls.{Ready}
-use Rattle.deserializer.proofs.Cut.{feed-append, shift}
+use Rattle.deserializer.proofs.Cut.{feed-append}
 use Rattle.stream_meaning.specs.Stream.{Stream, earlier}
 use Rattle.stream_meaning.specs.Taking.{fed}
 use Rattle.stream_meaning.specs.View.{viewed}
