@@ -3,3 +3,4 @@ pub mod Header
 pub mod Layout
 pub mod Limits
 pub mod Table
+pub mod Worked

@@ -19,15 +19,6 @@ pub data Stuck {S : Type 0} (s : Stand S) : Type 0 where
   closed-now : s .decoder .closed ≢ 0 → Stuck s
   short-now : length (s .buffer) < s .decoder .room → Stuck s
 
--- and otherwise it can go on
-pub stuck-or : {S A : Type 0} (s : Stand S) → (Stuck s → A) → (s .decoder .closed ≡ 0 → s .decoder .room ≤ length (s .buffer) → A) → A
-stuck-or {A = A} s stuck-so goes = by-use (uses s)
-  where
-    by-use : Uses s → A
-    by-use (closed n) = stuck-so (closed-now n)
-    by-use (short e l) = stuck-so (short-now l)
-    by-use (ready e l) = goes e l
-
 pub stuck-end : {S : Type 0} (s : Stand S) → Stuck s → s .decoder .closed ≡ 0 → s .decoder .room ≤ length (s .buffer) → ⊥
 stuck-end s (closed-now n) e l = n e
 stuck-end s (short-now k) e l = omega (arith, k, l)

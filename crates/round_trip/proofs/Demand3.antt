@@ -1,16 +1,17 @@
 -- Demand 3 is a line that breaks after its last byte.
-use Prim.Native.Nat.{ℕ}
-use mathlib.Core.List.{List, map}
-use mathlib.Core.Path.{_≡_, sym, ap, subst, _∙_}
+use Prim.Native.Nat.{ℕ, _+_, _-_}
+use mathlib.Core.Bool.{Bool, cond}
+use mathlib.Core.List.{List, [], _∷_, _++_, map}
+use mathlib.Core.Path.{_≡_, refl, sym, ap, subst, _∙_}
 use native.Mathlib.Omega.{arith}
-use lib.ListN.{length, take}
+use lib.ListN.{length, length-append, take}
 use lib.Seq.{take-all}
+use borrow.Author.Tests.{le-leb}
 use Rattle.serializer.specs.Remembered.{fresh}
 use Rattle.decoding.specs.Told.{between}
 use Rattle.round_trip.specs.Breaking.{Breaks, brokenAfter, whole}
 use Rattle.round_trip.specs.Demand3.{Begins, Demand3, HandsOut, Note, Packet, Receiver, bytes, handed, kept, last, log, receiver}
 use Rattle.round_trip.proofs.Breaking.{breaking}
-use Rattle.round_trip.proofs.Broken.{whole-all}
 
 module _ (r : Receiver) (packets : List Packet) (n : ℕ) (ns : List ℕ) (same : brokenAfter n r ≡ r) (all-whole : whole n packets ≡ packets)
     (uncut : take n (bytes packets) ≡ bytes packets) (b : Breaks r packets n ns) where
@@ -27,6 +28,16 @@ module _ (r : Receiver) (packets : List Packet) (n : ℕ) (ns : List ℕ) (same 
     );
     uses = λ h. ap (λ (x : Receiver). last x ns .unread) (sym same) ∙ b .uses (rw uncut h);
   }
+
+-- all of the bytes are all of the packets
+whole-all : (ps : List Packet) → whole (length (bytes ps)) ps ≡ ps
+whole-all [] = refl
+whole-all (p ∷ ps) =
+    let l : length (p .bytes ++ bytes ps) ≡ length (p .bytes) + length (bytes ps) = length-append (p .bytes) (bytes ps) in
+    let e : length (p .bytes ++ bytes ps) - length (p .bytes) ≡ length (bytes ps) = omega (arith, l) in
+    ap (λ (t : Bool). cond t (p ∷ whole (length (p .bytes ++ bytes ps) - length (p .bytes)) ps) []) (le-leb (length (p .bytes)) (length (p .bytes ++ bytes ps)) (omega (arith, l)))
+    ∙ ap (λ (n : ℕ). p ∷ whole n ps) e
+    ∙ ap (λ (l : List Packet). p ∷ l) (whole-all ps)
 
 -- after all of the bytes nothing is lacking
 uncut-all : (ps : List Packet) → take (length (bytes ps)) (bytes ps) ≡ bytes ps

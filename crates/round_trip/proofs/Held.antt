@@ -3,29 +3,24 @@ use Prim.Native.Nat.{ℕ, zero, suc, _+_, _≤_, _<_}
 use mathlib.Core.Path.{_≡_, refl, ap, _∙_}
 use mathlib.Core.Bool.{Bool, true, false, cond, _||_}
 use mathlib.Core.List.{List, [], _∷_, _++_}
-use mathlib.Core.Option.{some}
+use mathlib.Core.Option.{some, Option·map}
 use native.Mathlib.Omega.{arith}
 use lib.Dec.{ltb, eqb}
 use lib.ListN.{length, length-append}
 use borrow.Author.Tests.{eqb-true}
 use Rattle.fields.specs.Cases.{among}
-use Rattle.chunk_meaning.specs.Stored.{Row}
-use Rattle.byte_machine.specs.Rows.{find, free, ownRow, rowAt}
-use Rattle.byte_machine.proofs.Putting.{Lists, Puts, free-after}
+use Rattle.byte_machine.specs.Rows.{find, free, ownRow}
+use Rattle.byte_machine.proofs.Putting.{Lists, free-after}
+use Rattle.stream_meaning.specs.Stream.{Said}
+use Rattle.stream_meaning.specs.View.{saidIn}
 
--- a stream's row is in the table
-pub record Held (rows : List ℕ) (id : ℕ) (row : Row) : Type 0 where
-  pub is : ownRow rows id ≡ some row
-
-pub held-there : {rows : List ℕ} {id : ℕ} {row : Row} → Held rows id row → ltb (find rows id) 64 ≡ true
-held-there {rows} {id} h = by-row (ltb (find rows id) 64) refl
+-- a stream on which something was said has a row
+pub seen-there : (rows : List ℕ) (id : ℕ) {said : Said} → Option·map saidIn (ownRow rows id) ≡ some said → ltb (find rows id) 64 ≡ true
+seen-there rows id h = by-row (ltb (find rows id) 64) refl
   where
     by-row : (t : Bool) → ltb (find rows id) 64 ≡ t → ltb (find rows id) 64 ≡ true
     by-row true e = e
-    by-row false e = absurd (let z = rw e at (h .is) in let q : _≡_ {A = ℕ} 0 1 = cc in omega arith)
-
-pub held-row : {rows : List ℕ} {id : ℕ} {row : Row} → Held rows id row → rowAt rows (find rows id) ≡ row
-held-row {rows} {id} {row} h = let z : some (rowAt rows (find rows id)) ≡ some row = rw (held-there h) at (h .is) in cc
+    by-row false e = absurd (let z = rw e at h in let q : _≡_ {A = ℕ} 0 1 = cc in omega arith)
 
 -- how many of the encoder's five chunk streams are among some ids
 abbrev counts : (ids : List ℕ) → (id : ℕ) → ℕ
@@ -92,8 +87,8 @@ module _ (ids : List ℕ) (id : ℕ) (new : among id ids ≡ false) where
   tally-more p q = omega (arith, counts-more 2, counts-more 3, counts-more 4, counts-more 5, counts-more 6, one-of id p q)
 
 -- so a free one is left after a row of one of the five was put
-pub still-spare : {rows rows′ : List ℕ} {id : ℕ} {row : Row} → Puts rows id row rows′ → 2 ≤ id → id ≤ 6 → Spare rows → Spare rows′
-still-spare {rows} {rows′} {id} w p q s = by-test (among id (s .ids)) refl (w .lists (s .lists))
+pub still-spare : {rows rows′ : List ℕ} (id : ℕ) → 2 ≤ id → id ≤ 6 → (s : Spare rows) → Lists rows′ (cond (among id (s .ids)) (s .ids) (s .ids ++ (id ∷ []))) → Spare rows′
+still-spare {rows} {rows′} id p q s l = by-test (among id (s .ids)) refl l
   where
     by-test : (t : Bool) → among id (s .ids) ≡ t → Lists rows′ (cond t (s .ids) (s .ids ++ (id ∷ []))) → Spare rows′
     by-test true e l = record { ids = s .ids; lists = l; few = s .few }

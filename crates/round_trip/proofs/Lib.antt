@@ -1,8 +1,8 @@
 pub mod Agreeing
 pub mod Breaking
-pub mod Broken
 pub mod Demand3
 pub mod First
+pub mod Going
 pub mod Held
 pub mod Kept
 pub mod Later

@@ -1,146 +1,128 @@
 -- A packet is read back: its chunks, one after the other, hand out its message.
-use Prim.Native.Nat.{ℕ, zero, suc, _+_, _-_, _≤_, _<_, min}
-use mathlib.Core.Path.{_≡_, refl, sym, ap, _∙_}
+use Prim.Native.Nat.{ℕ, zero, suc, _+_, _≤_, _<_, min}
+use mathlib.Core.Path.{_≡_, refl, sym, ap, subst, _∙_}
 use mathlib.Core.Bool.{Bool, true, false}
-use mathlib.Core.List.{List, _++_, append-assoc, append-nil}
+use mathlib.Core.List.{List, [], _++_, append-assoc, append-nil}
+use mathlib.Core.Option.{Option, none, some, Option·getD}
 use native.Mathlib.Nat.{le-trans, not-suc-le-zero}
 use native.Mathlib.Omega.{arith}
 use lib.Dec.{ltb}
 use lib.ListN.{length, take, drop, length-append, length-drop, length-take, take-append-drop, drop-of-length-le}
-use lib.Seq.{sets, take-all}
-use borrow.Author.Tests.{ltb-true, ltb-false, ne-eqb}
-use Rattle.fields.proofs.Lists.{sets-append}
+use lib.Seq.{take-all}
+use borrow.Author.Tests.{ltb-true, ltb-false}
 use Rattle.chunk_header.specs.declared.ChunkHeader.{ChunkHeader}
 use Rattle.chunk_header.specs.declared.ChunkHeaderFormat.{ChunkHeaderFormat}
 use Rattle.chunk_header.specs.Layout.{Chunk, chunkBytes}
 use Rattle.serializer.specs.Packet.{chunk, laterFormat}
 use Rattle.serializer.proofs.Later.{later, later-none, later-step}
 use Rattle.decoding.specs.Decoder.{Decoder}
-use Rattle.decoding.specs.Answer.{message as found}
-use Rattle.decoding.specs.Call.{Outcome, outcome, run}
-use Rattle.decoding.specs.Chunk.{got}
+use Rattle.decoding.specs.Answer.{message as found, more}
+use Rattle.decoding.specs.Call.{Outcome, next}
+use Rattle.decoding.specs.Calls.{Ready}
+use Rattle.decoding.proofs.Cut.{feed-append}
+use Rattle.stream_meaning.specs.Stream.{Stream, earlier}
+use Rattle.stream_meaning.specs.Taking.{fed}
+use Rattle.stream_meaning.specs.View.{viewed}
 use Rattle.round_trip.proofs.Later.{later-chunk}
-use Rattle.round_trip.proofs.Taking.{At, Last, Onward, at-then, chunk-ends, chunk-goes-on}
-use Rattle.round_trip.proofs.Wire.{Fits, Taken}
+use Rattle.round_trip.proofs.Taking.{At, at-then, chunk-ends, chunk-goes-on}
+use Rattle.round_trip.proofs.Wire.{Fits, Taken, stands}
 
--- an outcome that hands out the message of a header, after so many bytes, and leaves a decoder between messages
-pub record Reads (d : Decoder) (h : ChunkHeader) (used : ℕ) (buffer : List ℕ) (o : Outcome) : Type 0 where
-  pub decoder : Decoder
-  pub runs : o ≡ outcome (found (h .«message_type_id») (h .«message_stream_id») (h .timestamp .value) (h .«message_length») used) decoder buffer
-  pub at : At d h 0 0 decoder
+-- the bytes, in one call, hand out the message of a header with this payload, and no message is unfinished on its stream
+pub record Reads (d : Decoder) (buffer : List ℕ) (h : ChunkHeader) (payload bytes : List ℕ) : Type 0 where
+  pub answer : next d bytes buffer .answer ≡ found (h .«message_type_id») (h .«message_stream_id») (h .timestamp .value) (length payload) (length bytes)
+  pub holds : take (length payload) (next d bytes buffer .payload) ≡ payload
+  pub at : At d buffer h none (next d bytes buffer .deserializer) (next d bytes buffer .payload)
 
--- a chunk with the first of the bytes that are left, and then the chunks with the others
-module _ (d : Decoder) (h : ChunkHeader) (f g : ChunkHeaderFormat) (size : ℕ) (xs rest : List ℕ) (k : Fits h) (some : 0 < size) where
+-- a chunk that only asks for more, and then the others
+then-others : {d : Decoder} {buffer : List ℕ} {h : ChunkHeader} {come : Option (List ℕ)} (c : Chunk) (all others : List ℕ)
+    → fed d buffer c .answer ≡ more (length (chunkBytes c))
+    → At d buffer h come (fed d buffer c .deserializer) (fed d buffer c .payload)
+    → Reads (fed d buffer c .deserializer) (fed d buffer c .payload) h all others
+    → Reads d buffer h all (chunkBytes c ++ others)
+then-others {d} {buffer} {h} c all others e a r =
+    let o = sym (feed-append d (chunkBytes c) others buffer (length (chunkBytes c)) e) in
+    record {
+      answer = ap (λ (x : Outcome). x .answer) (sym o) ∙ (rw (r .answer, length-append (chunkBytes c) others));
+      holds = subst (λ (x : Outcome). take (length all) (x .payload) ≡ all) o (r .holds);
+      at = subst (λ (x : Outcome). At d buffer h none (x .deserializer) (x .payload)) o (at-then a (r .at));
+    }
+
+-- a chunk with the first of the bytes ys that are left, after the bytes xs that have come
+module _ {d : Decoder} {buffer : List ℕ} (f g : ChunkHeaderFormat) (h : ChunkHeader) (size : ℕ) (xs ys : List ℕ) (k : Fits h) (some-size : 0 < size) (r : Ready d buffer)
+    (t : Taken d buffer (chunk f h (take size ys)) h) (so-far : earlier (viewed d buffer (h .«chunk_stream_id»)) (chunk f h (take size ys)) ≡ xs)
+    (left : length xs + length ys ≡ h .«message_length») where
   abbrev c : Chunk
-  c = chunk f h (take size xs)
+  c = chunk f h (take size ys)
+
+  abbrev o : Outcome
+  o = fed d buffer c
 
   abbrev others : List ℕ
-  others = later g h size (drop size xs)
-
-  abbrev bytes : List ℕ
-  bytes = chunkBytes c ++ others
-
-  -- where bytes are left after this chunk
-  abbrev done : ℕ
-  done = got d c + length (take size xs)
-
-  abbrev Read : List ℕ → ℕ → Type 0
-  Read buffer n = Reads d h (n + length bytes) (sets buffer (got d c) xs) (run (bytes ++ rest) d buffer n)
+  others = later g h size (drop size ys)
 
   abbrev ReadOthers : Type 0
-  ReadOthers =
-      (d′ : Decoder) (buffer : List ℕ) (n : ℕ) → At d h (h .«chunk_stream_id») done d′
-      → Reads d′ h (n + length others) (sets buffer done (drop size xs)) (run (others ++ rest) d′ buffer n)
+  ReadOthers = At d buffer h (some (xs ++ take size ys)) (o .deserializer) (o .payload) → Reads (o .deserializer) (o .payload) h (xs ++ ys) others
 
-  then-others : Onward d c h → ReadOthers → (buffer : List ℕ) (n : ℕ) → Read buffer n
-  then-others w next buffer n =
-      let n′ = n + length (chunkBytes c) in
-      let buffer′ = sets buffer (got d c) (take size xs) in
-      let r = next (w .decoder) buffer′ n′ (w .at) in
-      let used : n + length bytes ≡ n′ + length others = rw length-append (omega arith) in
-      let left-in : sets buffer (got d c) xs ≡ sets buffer′ done (drop size xs) =
-      ap (sets buffer (got d c)) (sym (take-append-drop size xs)) ∙ sym (sets-append buffer (got d c) (take size xs) (drop size xs))
-      in
-      record {
-        decoder = r .decoder;
-        runs =
-            ap (λ (l : List ℕ). run l d buffer n) (append-assoc (chunkBytes c) others rest)
-            ∙ w .runs buffer n (others ++ rest)
-            ∙ r .runs
-            ∙ (rw (used, left-in));
-        at = at-then (w .at) (r .at);
-      }
+  now : length (xs ++ take size ys) ≡ length xs + min size (length ys)
+  now = rw (length-append, length-take)
 
-  -- where none is
-  then-none : Last d c h → length xs ≤ size → (buffer : List ℕ) (n : ℕ) → Read buffer n
-  then-none w all buffer n =
-      let p : take size xs ≡ xs = take-all size xs all in
-      let z : bytes ≡ chunkBytes c = rw (drop-of-length-le xs {i = size} all, later-none g h size some) (append-nil (chunkBytes c)) in
-      let left-in : sets buffer (got d c) xs ≡ sets buffer (got d c) (take size xs) = ap (sets buffer (got d c)) (sym p) in
-      record { decoder = w .decoder; runs = rw (z, left-in) (w .runs buffer n rest); at = w .at }
+  goes : size < length ys → ReadOthers → Reads d buffer h (xs ++ ys) (chunkBytes c ++ others)
+  goes less next-ones =
+      let w = rw so-far at (chunk-goes-on f h (take size ys) r k t) in
+      let q = w (omega (arith, now, less, left)) in
+      then-others c (xs ++ ys) others (q .0) (q .1) (next-ones (q .1))
 
-  pub chunk-then : Taken d c h → got d c + length xs ≡ h .«message_length»
-      → (size < length xs → ReadOthers)
-      → (buffer : List ℕ) (n : ℕ) → Read buffer n
-  chunk-then t left next buffer n = by-length (ltb size (length xs)) refl
+  ends : length ys ≤ size → Reads d buffer h (xs ++ ys) (chunkBytes c ++ others)
+  ends all =
+      let z : chunkBytes c ++ others ≡ chunkBytes c = rw (drop-of-length-le ys {i = size} all, later-none g h size some-size) (append-nil (chunkBytes c)) in
+      let p : xs ++ take size ys ≡ xs ++ ys = ap (λ (l : List ℕ). xs ++ l) (take-all size ys all) in
+      let w = rw (so-far, p) at (chunk-ends f h (take size ys) r k t) in
+      let q = w (rw length-append (omega (arith, left))) in
+      rw z (record { answer = q .0; holds = q .1; at = q .2 })
+
+  pub chunk-then : (size < length ys → ReadOthers) → Reads d buffer h (xs ++ ys) (chunkBytes c ++ others)
+  chunk-then next-ones = by-length (ltb size (length ys)) refl
     where
-      by-length : (b : Bool) → ltb size (length xs) ≡ b → Read buffer n
-      by-length true e =
-          let less = ltb-true size (length xs) e in
-          let l : length (take size xs) ≡ size = rw length-take (omega (arith, less)) in
-          then-others (chunk-goes-on t k refl (omega (arith, left, l, less))) (next less) buffer n
-      by-length false e =
-          let all = ltb-false size (length xs) e in
-          let l : length (take size xs) ≡ length xs = rw length-take (omega (arith, all)) in
-          then-none (chunk-ends t k refl (omega (arith, left, l))) all buffer n
-
--- what a decoder inside a message has of it
-got-inside : (d : Decoder) (c : Chunk) (id n : ℕ) → 2 ≤ id → d .reader .message .id ≡ id → d .reader .message .got ≡ n → got d c ≡ n
-got-inside d c id n p e q = rw (ne-eqb (d .reader .message .id) 0 (omega (arith, e, p))) q
+      by-length : (b : Bool) → ltb size (length ys) ≡ b → Reads d buffer h (xs ++ ys) (chunkBytes c ++ others)
+      by-length true e = let less = ltb-true size (length ys) e in goes less (next-ones less)
+      by-length false e = ends (ltb-false size (length ys) e)
 
 -- the later chunks, for as many bytes as are left
-module _ (h : ChunkHeader) (k : Fits h) (forced : Bool) (time : forced ≡ true → h .«timestamp_field» ≡ h .timestamp .value) (size : ℕ) (some : 0 < size) (rest : List ℕ) where
+module _ (h : ChunkHeader) (k : Fits h) (forced : Bool) (time : forced ≡ true → h .«timestamp_field» ≡ h .timestamp .value) (size : ℕ) (some-size : 0 < size) where
   abbrev g : ChunkHeaderFormat
   g = laterFormat forced
 
-  later-taken : (d d′ : Decoder) (n : ℕ) (xs : List ℕ) → At d h (h .«chunk_stream_id») n d′ → d .«max_chunk_size» ≡ size → n + length xs ≡ h .«message_length»
-      → Taken d′ (chunk g h (take size xs)) h
-  later-taken d d′ n xs a e l =
-      let m : length (take size xs) ≡ min size (length xs) = length-take size xs in
-      later-chunk d′ h (take size xs) (a .reached) (a .stage) (a .message) (a .moves .held) k forced time (omega (arith, m, a .size, a .so-far, e, l))
-
   -- one of them, given how the others are read
-  next-reads : (d d′ : Decoder) (n : ℕ) (xs buffer : List ℕ) (used : ℕ) → At d h (h .«chunk_stream_id») n d′ → d .«max_chunk_size» ≡ size → n + length xs ≡ h .«message_length»
-      → 0 < length xs
-      → (size < length xs → (d″ : Decoder) (buffer′ : List ℕ) (used′ : ℕ) → At d′ h (h .«chunk_stream_id») (n + length (take size xs)) d″
-      → Reads d″ h (used′ + length (later g h size (drop size xs))) (sets buffer′ (n + length (take size xs)) (drop size xs))
-      (run (later g h size (drop size xs) ++ rest) d″ buffer′ used′))
-      → Reads d′ h (used + length (later g h size xs)) (sets buffer n xs) (run (later g h size xs ++ rest) d′ buffer used)
-  next-reads d d′ n xs buffer used a e l p others =
-      let c = chunk g h (take size xs) in
-      let i : got d′ c ≡ n = got-inside d′ c (h .«chunk_stream_id») n (k .id-least) (a .message) (a .so-far) in
-      rw (later-step g h size xs some p, ← i)
-      (chunk-then d′ h g g size xs rest k some (later-taken d d′ n xs a e l) (omega (arith, i, l))
-      (rw (← i) at others)
-      buffer used)
+  next-reads : (d : Decoder) (buffer xs ys : List ℕ) → Ready d buffer → viewed d buffer (h .«chunk_stream_id») ≡ stands h (some xs) → d .«max_chunk_size» ≡ size
+      → length xs + length ys ≡ h .«message_length»
+      → 0 < length ys
+      → (size < length ys → (d′ : Decoder) (buffer′ : List ℕ) → At d buffer h (some (xs ++ take size ys)) d′ buffer′
+      → Reads d′ buffer′ h ((xs ++ take size ys) ++ drop size ys) (later g h size (drop size ys)))
+      → Reads d buffer h (xs ++ ys) (later g h size ys)
+  next-reads d buffer xs ys r seen e l p others =
+      let m : length (take size ys) ≡ min size (length ys) = length-take size ys in
+      let t = later-chunk h (take size ys) xs k d buffer seen forced time (omega (arith, m, e, l)) in
+      let whole : (xs ++ take size ys) ++ drop size ys ≡ xs ++ ys = append-assoc xs (take size ys) (drop size ys) ∙ ap (λ (z : List ℕ). xs ++ z) (take-append-drop size ys) in
+      rw (later-step g h size ys some-size p)
+      (chunk-then g g h size xs ys k some-size r t (ap (λ (s : Stream). Option·getD (s .come) []) seen) l (λ less a. rw whole at (others less _ _ a)))
 
   -- what is left after it
-  left-adds : (n : ℕ) (xs : List ℕ) → n + length xs ≡ h .«message_length» → size < length xs → n + length (take size xs) + length (drop size xs) ≡ h .«message_length»
-  left-adds n xs l less = rw (length-take, length-drop) (omega (arith, l, less))
+  left-adds : (xs ys : List ℕ) → length xs + length ys ≡ h .«message_length» → size < length ys → length (xs ++ take size ys) + length (drop size ys) ≡ h .«message_length»
+  left-adds xs ys l less = rw (length-append, length-take, length-drop) (omega (arith, l, less))
 
-  left-some : (xs : List ℕ) → size < length xs → 0 < length (drop size xs)
-  left-some xs less = rw length-drop (omega (arith, less))
+  left-some : (ys : List ℕ) → size < length ys → 0 < length (drop size ys)
+  left-some ys less = rw length-drop (omega (arith, less))
 
-  left-less : (xs : List ℕ) (b : ℕ) → length xs ≤ suc b → length (drop size xs) ≤ b
-  left-less xs b q = rw length-drop (omega (arith, q, some))
+  left-less : (ys : List ℕ) (b : ℕ) → length ys ≤ suc b → length (drop size ys) ≤ b
+  left-less ys b q = rw length-drop (omega (arith, q, some-size))
 
-  pub later-reads : (b : ℕ) (d d′ : Decoder) (n : ℕ) (xs buffer : List ℕ) (used : ℕ) → At d h (h .«chunk_stream_id») n d′ → d .«max_chunk_size» ≡ size
-      → n + length xs ≡ h .«message_length»
-      → 0 < length xs
-      → length xs ≤ b
-      → Reads d′ h (used + length (later g h size xs)) (sets buffer n xs) (run (later g h size xs ++ rest) d′ buffer used)
-  later-reads zero d d′ n xs buffer used a e l p q = absurd (not-suc-le-zero (le-trans p q))
-  later-reads (suc b) d d′ n xs buffer used a e l p q =
-      next-reads d d′ n xs buffer used a e l p
-      (λ less d″ buffer′ used′ a′.
-      later-reads b d′ d″ (n + length (take size xs)) (drop size xs) buffer′ used′ a′ (a .size ∙ e) (left-adds n xs l less) (left-some xs less) (left-less xs b q))
+  pub later-reads : (b : ℕ) (d : Decoder) (buffer xs ys : List ℕ) → Ready d buffer → viewed d buffer (h .«chunk_stream_id») ≡ stands h (some xs)
+      → d .«max_chunk_size» ≡ size
+      → length xs + length ys ≡ h .«message_length»
+      → 0 < length ys
+      → length ys ≤ b
+      → Reads d buffer h (xs ++ ys) (later g h size ys)
+  later-reads zero d buffer xs ys r seen e l p q = absurd (not-suc-le-zero (le-trans p q))
+  later-reads (suc b) d buffer xs ys r seen e l p q =
+      next-reads d buffer xs ys r seen e l p
+      (λ less d′ buffer′ a. later-reads b d′ buffer′ (xs ++ take size ys) (drop size ys) (a .ready) (a .mine) (a .size ∙ e) (left-adds xs ys l less) (left-some ys less) (left-less ys b q))

@@ -1,10 +1,11 @@
--- What the encoder remembers of a stream, as the decoder's row of it, and the time field on the wire.
-use Prim.Native.Nat.{ℕ, _-_, _^_, _≤_, _<_, min}
+-- What the encoder remembers of a stream, as what was said on it last, and the time field on the wire.
+use Prim.Native.Nat.{ℕ, _^_, _≤_, _<_, min}
 use mathlib.Core.Path.{_≡_, refl}
 use mathlib.Core.Bool.{Bool, true, false, cond}
+use mathlib.Core.List.{List}
+use mathlib.Core.Option.{Option, some}
 use native.Mathlib.Omega.{arith}
 use lib.Dec.{ltb}
-use lib.ListN.{length}
 use borrow.Author.Tests.{ltb-true, ltb-false}
 use Rattle.chunk_header.specs.declared.ChunkHeader.{ChunkHeader}
 use Rattle.chunk_header.specs.declared.ChunkHeaderFormat.{ChunkHeaderFormat}
@@ -13,23 +14,17 @@ use Rattle.chunk_header.specs.Layout.{Chunk, absent, present, HeaderFits}
 use Rattle.serializer.specs.Packet.{extended, messageHeader}
 use Rattle.chunk_header.specs.Limits.{maxField}
 use Rattle.decoding.specs.Decoder.{Decoder}
-use Rattle.chunk_meaning.specs.Stored.{Row}
-use Rattle.decoding.specs.Chunk.{ExtendedFits, row, stored, says}
-use Rattle.decoding.proofs.Taken.{Takes}
-use Rattle.byte_machine.specs.Rows.{find}
-use Rattle.byte_machine.proofs.RowLaws.{find-tells}
-use Rattle.round_trip.proofs.Held.{Held, held-row, held-there}
+use Rattle.decoding.specs.Chunk.{basicRefused, headerRefused}
+use Rattle.stream_meaning.specs.Stream.{Said, Stream, ThereWhere, number, said, saying, time, Fits as FitsStream}
+use Rattle.stream_meaning.specs.View.{viewed}
 
--- the row that the decoder is to hold for what the encoder remembers: its time field is the wire's
-abbrev pub rowFor : ChunkHeader → Row
-rowFor h = record {
-  id = h .«chunk_stream_id»;
-  timestamp = h .timestamp;
-  «timestamp_field» = min (h .«timestamp_field») maxField;
-  «message_length» = h .«message_length»;
-  «message_type_id» = h .«message_type_id»;
-  «message_stream_id» = h .«message_stream_id»;
-}
+-- its time field is the wire's
+abbrev pub saidBy : ChunkHeader → Said
+saidBy h = said (h .timestamp .value) (min (h .«timestamp_field») maxField) (h .«message_length») (h .«message_type_id») (h .«message_stream_id»)
+
+-- a stream on which that was said last
+abbrev pub stands : ChunkHeader → (come : Option (List ℕ)) → Stream
+stands h come = record { stored = some (saidBy h); come = come }
 
 -- the numbers of a header fit their fields
 pub record Fits (h : ChunkHeader) : Type 0 where
@@ -42,36 +37,20 @@ pub record Fits (h : ChunkHeader) : Type 0 where
   pub stream : h .«message_stream_id» < 2 ^ 32
 
 -- the number that a chunk says of the time is all 32 bits of the field
-pub says-field : (field : ℕ) (r : Row) → r .«timestamp_field» ≡ min field maxField → says (extended field) r ≡ field
-says-field field r e = by-cases (ltb field maxField) refl
+pub number-field : (field wire : ℕ) → wire ≡ min field maxField → number (extended field) wire ≡ field
+number-field field wire e = by-cases (ltb field maxField) refl
   where
-    by-cases : (t : Bool) → ltb field maxField ≡ t → says (cond t absent (present field)) r ≡ field
+    by-cases : (t : Bool) → ltb field maxField ≡ t → number (cond t absent (present field)) wire ≡ field
     by-cases true q = omega (arith, e, ltb-true field maxField q)
     by-cases false q = refl
 
 -- and it is extended exactly where the field on the wire is 16777215
-pub extended-fits : (field : ℕ) (r : Row) → r .«timestamp_field» ≡ min field maxField → field < 2 ^ 32 → ExtendedFits (extended field) r
-extended-fits field r e h = by-cases (ltb field maxField) refl
+pub extended-there : (field wire : ℕ) → wire ≡ min field maxField → field < 2 ^ 32 → ThereWhere (extended field) wire
+extended-there field wire e h = by-cases (ltb field maxField) refl
   where
-    by-cases : (t : Bool) → ltb field maxField ≡ t → ExtendedFits (cond t absent (present field)) r
+    by-cases : (t : Bool) → ltb field maxField ≡ t → ThereWhere (cond t absent (present field)) wire
     by-cases true q = λ z. omega (arith, z, e, ltb-true field maxField q)
     by-cases false q = (omega (arith, e, ltb-false field maxField q), h)
-
--- a chunk is taken, and leaves what the encoder remembers
-pub record Taken (d : Decoder) (c : Chunk) (h : ChunkHeader) : Type 0 where
-  pub takes : Takes d c
-  pub stores : stored d c ≡ rowFor h
-
--- what a stream's row says where one is held, and its id where none is
-pub row-held : (d : Decoder) (c : Chunk) (r : Row) → Held (d .rows) (c .id) r → row d c ≡ r
-row-held d c r h = rw (held-there h) (held-row h)
-
-pub row-id : (d : Decoder) (c : Chunk) → row d c .id ≡ c .id
-row-id d c = by-cases (ltb (find (d .rows) (c .id)) 64) refl
-  where
-    by-cases : (t : Bool) → ltb (find (d .rows) (c .id)) 64 ≡ t → row d c .id ≡ c .id
-    by-cases true e = rw e (find-tells (d .rows) (c .id) (ltb-true _ _ e))
-    by-cases false e = rw e
 
 -- each number of a chunk's header fits its field
 pub fields-fit : (f : ChunkHeaderFormat) (h : ChunkHeader) → Fits h → HeaderFits (messageHeader f h)
@@ -79,3 +58,14 @@ fields-fit Full h k = (omega arith, k .length, k .type, k .stream)
 fields-fit TimeDeltaWithoutMessageStreamId h k = (omega arith, k .length, k .type)
 fields-fit TimeDeltaOnly h k = omega arith
 fields-fit Empty h k = tt
+
+-- what a chunk leaves said is what the encoder remembers
+abbrev pub Says : Stream → Chunk → ChunkHeader → Type 0
+Says s c h = said (time s c) (saying s c .field) (saying s c .length) (saying s c .type) (saying s c .stream) ≡ saidBy h
+
+-- a chunk that its stream and the decoder take
+pub record Taken (d : Decoder) (buffer : List ℕ) (c : Chunk) (h : ChunkHeader) : Type 0 where
+  pub says : Says (viewed d buffer (c .id)) c h
+  pub fits : FitsStream (d .«max_chunk_size») (viewed d buffer (c .id)) c
+  pub basic : basicRefused d c ≡ 0
+  pub head : headerRefused d c ≡ 0

@@ -4,6 +4,7 @@ use native.Mathlib.Omega.{arith}
 use Rattle.fields.specs.Endian.{bigEndian, littleEndian, gather}
 use Rattle.chunk_header.specs.Basic.{csid}
 use Rattle.chunk_header.specs.Layout.{chunkBytes}
+use Rattle.chunk_header.specs.Worked.{audio, video}
 use Rattle.user_control.specs.Reading.{known, count, reading}
 use Rattle.serializer.specs.Header.{delta, format}
 use Rattle.serializer.specs.Message.{chunkStream}
@@ -20,7 +21,7 @@ use Rattle.decoding.specs.Told.{made}
 use Rattle.stream_meaning.specs.Connection.{AllFit}
 use Rattle.time.specs.Distance.{wrapped}
 use Rattle.samples.specs.Sample.{AsPrinted}
-use Rattle.samples.specs.Worked.{audio, items, video}
+use Rattle.samples.specs.Worked.{items}
 use Rattle.samples.specs.Table.{table}
 
 pub samples-hold : AsPrinted table

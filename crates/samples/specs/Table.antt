@@ -5,6 +5,7 @@ use mathlib.Core.List.{List, [], _∷_}
 use Rattle.chunk_header.specs.declared.Csid.{Csid}
 use Rattle.chunk_header.specs.declared.Csid.the-variants.{Id, Incomplete}
 use Rattle.chunk_header.specs.Basic.{csid}
+use Rattle.chunk_header.specs.Worked.{audio, video}
 use Rattle.user_control.specs.declared.UserControlEvent.the-variants.{SetBufferLength}
 use Rattle.user_control.specs.Answer.{Answer, event, refused}
 use Rattle.user_control.specs.Body.{body}
@@ -13,7 +14,7 @@ use Rattle.samples.specs.Decoded.{decoded}
 use Rattle.samples.specs.Distances.{distances}
 use Rattle.samples.specs.Encoded.{Call, send, size, encoded}
 use Rattle.samples.specs.Sample.{Sample, _is_}
-use Rattle.samples.specs.Worked.{audio, mixed, video, sizes, firstBytes, meant}
+use Rattle.samples.specs.Worked.{mixed, meant}
 
 -- the values of an answer, in their order
 abbrev values : Answer → List ℕ
@@ -111,12 +112,7 @@ table =
     -- M11, written and read
     ∷ body (SetBufferLength 1 500) is bytes11
     ∷ values (reading bytes11) is (3 ∷ 1 ∷ 500 ∷ [])
-    -- Adobe 5.3.2.1 and 5.3.2.2
-    ∷ sizes audio is (44 ∷ 36 ∷ 33 ∷ 33 ∷ [])
-    ∷ firstBytes 12 audio is (0x03 ∷ 0x00 ∷ 0x03 ∷ 0xE8 ∷ 0x00 ∷ 0x00 ∷ 0x20 ∷ 0x08 ∷ 0x39 ∷ 0x30 ∷ 0x00 ∷ 0x00 ∷ [])
-    ∷ sizes video is (140 ∷ 129 ∷ 52 ∷ [])
-    ∷ firstBytes 12 video is (0x04 ∷ 0x00 ∷ 0x03 ∷ 0xE8 ∷ 0x00 ∷ 0x01 ∷ 0x33 ∷ 0x09 ∷ 0x3A ∷ 0x30 ∷ 0x00 ∷ 0x00 ∷ [])
-    -- and what they mean: times 1000, 1020, 1040, 1060; 307 bytes; mixed, each stream's messages in its order, the video's when its last chunk has come
+    -- what Adobe's examples mean (5.3.2; their bytes: chunk_header's proofs/Samples.antt): times 1000, 1020, 1040, 1060; 307 bytes; mixed, each stream's messages in its order, the video's when its last chunk has come
     ∷ meant audio is (8 ∷ 12345 ∷ 1000 ∷ 32 ∷ 8 ∷ 12345 ∷ 1020 ∷ 32 ∷ 8 ∷ 12345 ∷ 1040 ∷ 32 ∷ 8 ∷ 12345 ∷ 1060 ∷ 32 ∷ [])
     ∷ meant video is (9 ∷ 12346 ∷ 1000 ∷ 307 ∷ [])
     ∷ meant mixed is (8 ∷ 12345 ∷ 1000 ∷ 32 ∷ 8 ∷ 12345 ∷ 1020 ∷ 32 ∷ 9 ∷ 12346 ∷ 1000 ∷ 307 ∷ 8 ∷ 12345 ∷ 1040 ∷ 32 ∷ [])

@@ -58,9 +58,6 @@ module _ {d : Decoder} {buffer : List ℕ} (c : Chunk) (r : Ready d buffer) (hea
   is-named : Named d buffer c
   is-named = record { reached = made-reaches (r .by-calls); long = r .long; form = head .form; passes = basic-taken }
 
-  is-taken : ChunkFits d c → Takes d c
-  is-taken fits = record { reached = made-reaches (r .by-calls); between = r .between-chunks; fits = fits; basic = basic-taken; head = head-taken }
-
 -- a chunk that is taken
 module _ {d : Decoder} {buffer : List ℕ} {c : Chunk} (r : Ready d buffer) (h : Named d buffer c) (t : Takes d c) where
   abbrev s : Stream
@@ -178,25 +175,32 @@ module _ {d : Decoder} {buffer : List ℕ} {c : Chunk} (r : Ready d buffer) (h :
     same-size = rw (after-it .0) (same-after .1);
   }
 
+-- a chunk that fits its stream and that is refused at neither end of its header; the ids stand in the table in the order in which they came
+module _ {d : Decoder} {buffer : List ℕ} (c : Chunk) (r : Ready d buffer) (fits : Fits (d .«max_chunk_size») (viewed d buffer (c .id)) c)
+    (basic : basicRefused d c ≡ 0) (head : headerRefused d c ≡ 0) where
+  named : Named d buffer c
+  named = record { reached = made-reaches (r .by-calls); long = r .long; form = fits .head .form; passes = basic }
+
+  taken : Takes d c
+  taken = record { reached = made-reaches (r .by-calls); between = r .between-chunks; fits = chunk-fits named fits; basic = basic; head = head }
+
+  pub passes : Took d buffer c (fed d buffer c)
+  passes = took r named taken
+
+  pub lists-passed : (ids : List ℕ) → Lists (d .rows) ids → Lists (fed d buffer c .deserializer .rows) (cond (among (c .id) ids) ids (ids ++ (c .id ∷ [])))
+  lists-passed ids l = rw (after-it r named taken .0) (leaves taken .rows .lists l)
+
 pub own-stream : OwnStream
-own-stream d buffer c r fits h =
-    let head = head-fits d buffer c (fits .head) in
-    let named = is-named c r head h in
-    took r named (is-taken c r head h (chunk-fits named fits))
+own-stream d buffer c r fits h = let head = head-fits d buffer c (fits .head) in passes c r fits (basic-taken c r head h) (head-taken c r head h)
 
 -- a chunk that fits the decoder and is not refused fits its stream
 pub fits-stream : (d : Decoder) (buffer : List ℕ) (c : Chunk) → Ready d buffer → ChunkFits d c → NotRefused (fed d buffer c .answer)
     → Fits (d .«max_chunk_size») (viewed d buffer (c .id)) c
 fits-stream d buffer c r fits h = stream-fits (is-named c r (fits .head) h) fits
 
--- and the ids stand in the table in the order in which they came
 pub lists-after : (d : Decoder) (buffer : List ℕ) (c : Chunk) (r : Ready d buffer) → Fits (d .«max_chunk_size») (viewed d buffer (c .id)) c
     → NotRefused (fed d buffer c .answer)
     → {ids : List ℕ}
     → Lists (d .rows) ids
     → Lists (fed d buffer c .deserializer .rows) (cond (among (c .id) ids) ids (ids ++ (c .id ∷ [])))
-lists-after d buffer c r fits h l =
-    let head = head-fits d buffer c (fits .head) in
-    let named = is-named c r head h in
-    let t = is-taken c r head h (chunk-fits named fits) in
-    rw (after-it r named t .0) (leaves t .rows .lists l)
+lists-after d buffer c r fits h {ids} l = let head = head-fits d buffer c (fits .head) in lists-passed c r fits (basic-taken c r head h) (head-taken c r head h) ids l
