@@ -22,7 +22,7 @@ fn put_ok(text: &mut [u8], filled: usize) -> usize {
 }
 
 // Puts `refused K` behind the text.
-fn put_refused(text: &mut [u8], filled: usize, number: u8) -> usize {
+fn put_refused(text: &mut [u8], filled: usize, number: u32) -> usize {
     put_numbered(text, filled, b"refused ", number as u64)
 }
 

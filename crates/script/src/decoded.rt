@@ -1,5 +1,5 @@
 // What a feed answers, as text.
-use deserializer::Answer;
+use in_place::Answer;
 use script_text::put;
 use script_text::put_hex;
 use script_text::put_numbered;
@@ -15,7 +15,7 @@ fn put_used(text: &mut [u8], filled: usize, used: usize) -> usize {
 fn put_header(
     text: &mut [u8],
     filled: usize,
-    type_id: u8,
+    type_id: u32,
     stream_id: u32,
     time: u32,
     length: u32,
@@ -40,7 +40,7 @@ fn put_more(text: &mut [u8], filled: usize, used: usize) -> usize {
 }
 
 // Puts `refused K used U` behind the text.
-fn put_refused(text: &mut [u8], filled: usize, number: u8, used: usize) -> usize {
+fn put_refused(text: &mut [u8], filled: usize, number: u32, used: usize) -> usize {
     let numbered = put_numbered(text, filled, b"refused ", number as u64);
     put_used(text, numbered, used)
 }

@@ -3,47 +3,21 @@ use crate::body_calls;
 use crate::control_calls;
 use crate::dec_calls;
 use crate::enc_calls;
-use crate::kept::Codec;
-use crate::kept::Made;
+use crate::enc_calls::Made;
 use crate::outcomes::Outcome;
 use crate::plan_calls;
 use crate::settings_calls;
 use crate::time_calls;
 use script_text::place_of;
 use script_text::word;
+use serializer::ChunkSerializer;
 
 // The longest line, its end not counted.
 pub const LONGEST_LINE: usize = 262144;
 
-// A line that leaves the codec as it was.
-fn beside(codec: Codec, outcome: Outcome) -> Made {
-    Made { codec, outcome }
-}
-
-// Makes a call of the encoder.
-fn encode(codec: Codec, line: &[u8], bytes: &mut [u8], output: &mut [u8]) -> Made {
-    let before = codec.encoder;
-    let encoded = enc_calls::make(before, line, bytes, output);
-    let encoder = encoded.encoder;
-    let outcome = encoded.outcome;
-    let decoder = codec.decoder;
-    Made {
-        codec: Codec { encoder, decoder },
-        outcome,
-    }
-}
-
-// Makes a call of the decoder.
-fn decode(codec: Codec, line: &[u8], bytes: &mut [u8], payload: &mut [u8]) -> Made {
-    let before = codec.decoder;
-    let fed = dec_calls::make(before, line, bytes, payload);
-    let decoder = fed.decoder;
-    let outcome = fed.outcome;
-    let encoder = codec.encoder;
-    Made {
-        codec: Codec { encoder, decoder },
-        outcome,
-    }
+// A line that leaves the encoder as it was.
+fn beside(encoder: ChunkSerializer, outcome: Outcome) -> Made {
+    Made { encoder, outcome }
 }
 
 // Whether the line is empty or a comment.
@@ -56,37 +30,41 @@ fn is_skipped(line: &[u8]) -> bool {
 
 // Makes the call of a line that has one.
 fn make_named(
-    codec: Codec,
+    encoder: ChunkSerializer,
+    held: &mut [u32; 24],
+    rows: &mut [u32; 384],
     line: &[u8],
     bytes: &mut [u8],
     output: &mut [u8],
     payload: &mut [u8],
 ) -> Made {
     match place_of(b"time control enc dec settings plan body", word(line, 0)) {
-        0 => beside(codec, time_calls::make(line, bytes)),
-        1 => beside(codec, control_calls::make(line, bytes, output)),
-        2 => encode(codec, line, bytes, output),
-        3 => decode(codec, line, bytes, payload),
-        4 => beside(codec, settings_calls::make(line, bytes, output)),
-        5 => beside(codec, plan_calls::make(line, bytes, output)),
-        6 => beside(codec, body_calls::make(line, bytes, output)),
-        _ => beside(codec, Outcome::BadLine),
+        0 => beside(encoder, time_calls::make(line, bytes)),
+        1 => beside(encoder, control_calls::make(line, bytes, output)),
+        2 => enc_calls::make(encoder, line, bytes, output),
+        3 => beside(encoder, dec_calls::make(held, rows, line, bytes, payload)),
+        4 => beside(encoder, settings_calls::make(line, bytes, output)),
+        5 => beside(encoder, plan_calls::make(line, bytes, output)),
+        6 => beside(encoder, body_calls::make(line, bytes, output)),
+        _ => beside(encoder, Outcome::BadLine),
     }
 }
 
 // Makes the call that the line is.
 pub fn make(
-    codec: Codec,
+    encoder: ChunkSerializer,
+    held: &mut [u32; 24],
+    rows: &mut [u32; 384],
     line: &[u8],
     bytes: &mut [u8],
     output: &mut [u8],
     payload: &mut [u8],
 ) -> Made {
     if LONGEST_LINE < line.len() {
-        return beside(codec, Outcome::BadLine);
+        return beside(encoder, Outcome::BadLine);
     }
     if is_skipped(line) {
-        return beside(codec, Outcome::Skipped);
+        return beside(encoder, Outcome::Skipped);
     }
-    make_named(codec, line, bytes, output, payload)
+    make_named(encoder, held, rows, line, bytes, output, payload)
 }

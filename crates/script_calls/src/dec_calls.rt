@@ -1,25 +1,8 @@
-// The calls of the decoder.
+// The calls of the decoder, over the numbers and the table that are lent.
 use crate::outcomes::Outcome;
-use deserializer::ChunkDeserializer;
-use deserializer::Decoded;
-use deserializer::Telling;
-use deserializer::Told;
+use in_place::Telling;
 use script_text::read_call;
 use test_parts::part;
-
-// What becomes of a call, and the decoder after it.
-pub struct Fed {
-    pub decoder: ChunkDeserializer,
-    pub outcome: Outcome,
-}
-
-// A bad line, which leaves the decoder as it was.
-fn bad(decoder: ChunkDeserializer) -> Fed {
-    Fed {
-        decoder,
-        outcome: Outcome::BadLine,
-    }
-}
 
 // Whether a room or a size was taken.
 fn said(telling: Telling) -> Outcome {
@@ -29,39 +12,31 @@ fn said(telling: Telling) -> Outcome {
     }
 }
 
-// After `dec new` or `dec size`. The decoder that it handed back is in place of the last, after a
-// refusal too.
-fn after_telling(told: Told) -> Fed {
-    let decoder = told.deserializer;
-    let telling = told.telling;
-    Fed {
-        decoder,
-        outcome: said(telling),
-    }
-}
-
-// After `dec feed`.
-fn after_feeding(decoded: Decoded) -> Fed {
-    let decoder = decoded.deserializer;
-    let answer = decoded.answer;
-    Fed {
-        decoder,
-        outcome: Outcome::Decoded(answer),
-    }
-}
-
 // Makes the call `dec feed` with the first `buffer` bytes of the payload buffer. More than there are
 // cannot be lent.
-fn feed(decoder: ChunkDeserializer, piece: &[u8], buffer: u32, payload: &mut [u8]) -> Fed {
+fn feed(
+    held: &mut [u32; 24],
+    rows: &mut [u32; 384],
+    piece: &[u8],
+    buffer: u32,
+    payload: &mut [u8],
+) -> Outcome {
     let lent = buffer as usize;
     if payload.len() < lent {
-        return bad(decoder);
+        return Outcome::BadLine;
     }
-    after_feeding(decoder.get_next_message(piece, &mut payload[0..lent]))
+    let answer = in_place::next_message(held, rows, piece, &mut payload[0..lent]);
+    Outcome::Decoded(answer)
 }
 
 // Makes the call that the line is.
-pub fn make(decoder: ChunkDeserializer, line: &[u8], bytes: &mut [u8], payload: &mut [u8]) -> Fed {
+pub fn make(
+    held: &mut [u32; 24],
+    rows: &mut [u32; 384],
+    line: &[u8],
+    bytes: &mut [u8],
+    payload: &mut [u8],
+) -> Outcome {
     let call = read_call(
         b"dec new ROOM,dec feed BUFFER HEX,dec size SIZE",
         line,
@@ -70,9 +45,9 @@ pub fn make(decoder: ChunkDeserializer, line: &[u8], bytes: &mut [u8], payload: 
     let number = call.numbers[0];
     let form = call.form;
     match form {
-        0 => after_telling(ChunkDeserializer::new(number)),
-        1 => feed(decoder, part(bytes, 0, call.length), number, payload),
-        2 => after_telling(decoder.set_max_chunk_size(number)),
-        _ => bad(decoder),
+        0 => said(in_place::make(held, rows, number)),
+        1 => feed(held, rows, part(bytes, 0, call.length), number, payload),
+        2 => said(in_place::set_max_chunk_size(held, number)),
+        _ => Outcome::BadLine,
     }
 }

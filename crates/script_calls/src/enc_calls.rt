@@ -10,14 +10,14 @@ use test_parts::part;
 use time::RtmpTimestamp;
 
 // What becomes of a call, and the encoder after it.
-pub struct Encoded {
+pub struct Made {
     pub encoder: ChunkSerializer,
     pub outcome: Outcome,
 }
 
 // A bad line, which leaves the encoder as it was.
-fn bad(encoder: ChunkSerializer) -> Encoded {
-    Encoded {
+fn bad(encoder: ChunkSerializer) -> Made {
+    Made {
         encoder,
         outcome: Outcome::BadLine,
     }
@@ -27,15 +27,15 @@ fn bad(encoder: ChunkSerializer) -> Encoded {
 fn said(packet: Packet) -> Outcome {
     match packet {
         Packet::Written(count) => Outcome::Wrote(count),
-        _ => Outcome::Refused(refusal_of(packet)),
+        _ => Outcome::Refused(refusal_of(packet) as u32),
     }
 }
 
 // After a call. The encoder that it handed back is in place of the last, after a refusal too.
-fn after(serialized: Serialized) -> Encoded {
+fn after(serialized: Serialized) -> Made {
     let encoder = serialized.serializer;
     let packet = serialized.packet;
-    Encoded {
+    Made {
         encoder,
         outcome: said(packet),
     }
@@ -47,7 +47,7 @@ fn is_message(call: Call) -> bool {
 }
 
 // Makes the call `enc msg`.
-fn send(encoder: ChunkSerializer, call: Call, payload: &[u8], output: &mut [u8]) -> Encoded {
+fn send(encoder: ChunkSerializer, call: Call, payload: &[u8], output: &mut [u8]) -> Made {
     if !is_message(call) {
         return bad(encoder);
     }
@@ -67,7 +67,7 @@ fn send(encoder: ChunkSerializer, call: Call, payload: &[u8], output: &mut [u8])
 }
 
 // Makes the call `enc size`.
-fn change_size(encoder: ChunkSerializer, call: Call, output: &mut [u8]) -> Encoded {
+fn change_size(encoder: ChunkSerializer, call: Call, output: &mut [u8]) -> Made {
     let time = RtmpTimestamp::new(call.numbers[1]);
     after(encoder.set_max_chunk_size(call.numbers[0], time, output))
 }
@@ -83,10 +83,10 @@ fn lent_by(call: Call) -> usize {
 }
 
 // Makes the call with this output.
-fn make_lent(encoder: ChunkSerializer, call: Call, bytes: &[u8], output: &mut [u8]) -> Encoded {
+fn make_lent(encoder: ChunkSerializer, call: Call, bytes: &[u8], output: &mut [u8]) -> Made {
     let form = call.form;
     match form {
-        0 => Encoded {
+        0 => Made {
             encoder: ChunkSerializer::new(),
             outcome: Outcome::Ok,
         },
@@ -98,7 +98,7 @@ fn make_lent(encoder: ChunkSerializer, call: Call, bytes: &[u8], output: &mut [u
 
 // Makes the call that the line is with the first OUT bytes of the output. More than there are cannot
 // be lent.
-pub fn make(encoder: ChunkSerializer, line: &[u8], bytes: &mut [u8], output: &mut [u8]) -> Encoded {
+pub fn make(encoder: ChunkSerializer, line: &[u8], bytes: &mut [u8], output: &mut [u8]) -> Made {
     let call = read_call(
         b"enc new,enc msg TYPE STREAM TIME FORCED DROPPABLE OUT HEX,enc size SIZE TIME OUT",
         line,

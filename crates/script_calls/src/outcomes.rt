@@ -1,5 +1,5 @@
 // What becomes of a line.
-use deserializer::Answer;
+use in_place::Answer;
 use protocol_control::ProtocolControl;
 use settings::Settings;
 use user_control::UserControlEvent;
@@ -14,7 +14,7 @@ pub enum Outcome {
     // how many bytes were written
     Wrote(usize),
     // the number of the refusal
-    Refused(u8),
+    Refused(u32),
     Timestamp(u32),
     // how far it is from one timestamp to another, to tell which is later, or to tell how far
     Compared(i64),

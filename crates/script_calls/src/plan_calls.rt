@@ -50,7 +50,7 @@ fn proposed(proposal: Proposal, output: &mut [u8]) -> Outcome {
     match plan {
         Plan::Keep(count) => Outcome::Keep(count),
         Plan::Cannot => Outcome::Cannot,
-        Plan::Refused(number) => Outcome::Refused(number),
+        Plan::Refused(number) => Outcome::Refused(number as u32),
     }
 }
 
@@ -67,7 +67,7 @@ fn judged(
     }
     match drop_plan::judge(lengths, droppable, limit, &places[0..count]) {
         Verdict::Accepted => Outcome::Accepted,
-        Verdict::Refused(number) => Outcome::Refused(number),
+        Verdict::Refused(number) => Outcome::Refused(number as u32),
     }
 }
 
