@@ -1,16 +1,6 @@
 // Runs a script of the codec's calls: one call a line on standard input, one answer a line on
 // standard output.
-mod answers;
-mod bodies;
-mod decoded;
-mod events;
-mod input;
-mod lines;
-mod order;
-mod output;
-mod plans;
-mod state;
-mod stored;
+mod calls;
 mod turns;
 
 // What is read: the unfinished line that is kept, of up to 262144 bytes, and at least as many more.

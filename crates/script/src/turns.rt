@@ -4,11 +4,15 @@ use crate::INPUT_LENGTH;
 use crate::OUTPUT_LENGTH;
 use crate::PAYLOAD_LENGTH;
 use crate::TEXT_LENGTH;
-use crate::answers::answer;
-use crate::lines::next_line;
-use crate::output::write_answers;
-use crate::state::State;
-use script_calls::make;
+use crate::calls::make;
+use script_lines::LONGEST_LINE;
+use script_lines::State;
+use script_lines::end_answer;
+use script_lines::next_line;
+use script_lines::write_answers;
+use script_said::Said;
+use script_said::put_numbered;
+use script_said::put_said;
 use serializer::ChunkSerializer;
 use test_parts::part;
 
@@ -28,10 +32,27 @@ impl Kept {
     }
 }
 
+// Whether the line is empty or a comment, and not too long.
+fn is_skipped(line: &[u8]) -> bool {
+    if line.len() == 0 {
+        return true;
+    }
+    line[0] == b'#' && line.len() <= LONGEST_LINE
+}
+
+// Answers the line that was taken last. After `bad line N` the run is over.
+fn answer(state: State, text: &mut [u8], said: Said, output: &[u8], payload: &[u8]) -> State {
+    if said.is_bad {
+        let filled = put_numbered(text, state.waiting, b"bad line ", state.lines);
+        return end_answer(state, text, filled).stop();
+    }
+    let filled = put_said(text, state.waiting, said, output, payload);
+    end_answer(state, text, filled)
+}
+
 // Makes the call of the line that was taken last, and answers it.
 fn answer_line(
-    state: State,
-    encoder: ChunkSerializer,
+    kept: Kept,
     line: &[u8],
     held: &mut [u32; 24],
     rows: &mut [u32; 384],
@@ -40,16 +61,18 @@ fn answer_line(
     output: &mut [u8],
     payload: &mut [u8],
 ) -> Kept {
-    let made = make(encoder, held, rows, line, bytes, output, payload);
-    let outcome = made.outcome;
-    let after = made.encoder;
+    let state = kept.state;
+    let before = kept.encoder;
+    let made = make(before, held, rows, line, bytes, output, payload);
+    let said = made.said;
+    let encoder = made.encoder;
     Kept {
-        state: answer(state, text, outcome, output, payload),
-        encoder: after,
+        state: answer(state, text, said, output, payload),
+        encoder,
     }
 }
 
-// Takes a line, which is empty where more had to be read, and answers it.
+// Takes a line, which is empty where more had to be read, and answers it where it is not skipped.
 fn turn(
     kept: Kept,
     held: &mut [u32; 24],
@@ -64,17 +87,11 @@ fn turn(
     let encoder = kept.encoder;
     let state = next_line(before, input, text);
     let line = part(input, state.from, state.to);
-    answer_line(
-        state,
-        encoder,
-        line,
-        held,
-        rows,
-        text,
-        bytes,
-        output,
-        payload,
-    )
+    let taken = Kept { state, encoder };
+    if is_skipped(line) {
+        return taken;
+    }
+    answer_line(taken, line, held, rows, text, bytes, output, payload)
 }
 
 // Runs the whole script. The turns are counted down from a number that no run uses up.

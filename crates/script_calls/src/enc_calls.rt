@@ -1,5 +1,5 @@
 // The calls of the encoder.
-use crate::outcomes::Outcome;
+use script_said::Said;
 use script_text::Call;
 use script_text::read_call;
 use serializer::ChunkSerializer;
@@ -12,22 +12,22 @@ use time::RtmpTimestamp;
 // What becomes of a call, and the encoder after it.
 pub struct Made {
     pub encoder: ChunkSerializer,
-    pub outcome: Outcome,
+    pub said: Said,
 }
 
 // A bad line, which leaves the encoder as it was.
 fn bad(encoder: ChunkSerializer) -> Made {
     Made {
         encoder,
-        outcome: Outcome::BadLine,
+        said: Said::bad(),
     }
 }
 
 // What a packet says.
-fn said(packet: Packet) -> Outcome {
+fn told(packet: Packet) -> Said {
     match packet {
-        Packet::Written(count) => Outcome::Wrote(count),
-        _ => Outcome::Refused(refusal_of(packet) as u32),
+        Packet::Written(count) => Said::wrote(count),
+        _ => Said::refused(refusal_of(packet) as u32),
     }
 }
 
@@ -37,7 +37,7 @@ fn after(serialized: Serialized) -> Made {
     let packet = serialized.packet;
     Made {
         encoder,
-        outcome: said(packet),
+        said: told(packet),
     }
 }
 
@@ -88,7 +88,7 @@ fn make_lent(encoder: ChunkSerializer, call: Call, bytes: &[u8], output: &mut [u
     match form {
         0 => Made {
             encoder: ChunkSerializer::new(),
-            outcome: Outcome::Ok,
+            said: Said::new(b"ok"),
         },
         1 => send(encoder, call, part(bytes, 0, call.length), output),
         2 => change_size(encoder, call, output),
@@ -98,7 +98,12 @@ fn make_lent(encoder: ChunkSerializer, call: Call, bytes: &[u8], output: &mut [u
 
 // Makes the call that the line is with the first OUT bytes of the output. More than there are cannot
 // be lent.
-pub fn make(encoder: ChunkSerializer, line: &[u8], bytes: &mut [u8], output: &mut [u8]) -> Made {
+pub fn make_enc(
+    encoder: ChunkSerializer,
+    line: &[u8],
+    bytes: &mut [u8],
+    output: &mut [u8],
+) -> Made {
     let call = read_call(
         b"enc new,enc msg TYPE STREAM TIME FORCED DROPPABLE OUT HEX,enc size SIZE TIME OUT",
         line,
