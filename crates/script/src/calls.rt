@@ -13,14 +13,25 @@ use script_text::place_of;
 use script_text::word;
 use serializer::ChunkSerializer;
 
+// The family of a line that is of none.
+const NONE: usize = 7;
+
+// The family of calls that the line is of, by its first word. A line that is too long is of none.
+fn family_of(line: &[u8]) -> usize {
+    if LONGEST_LINE < line.len() {
+        return NONE;
+    }
+    place_of(b"enc dec time control settings plan body", word(line, 0))
+}
+
 // Makes the call of a line that leaves encoder and decoder as they were.
-fn make_other(line: &[u8], bytes: &mut [u8], output: &mut [u8]) -> Said {
-    match place_of(b"time control settings plan body", word(line, 0)) {
-        0 => make_time(line, bytes),
-        1 => make_control(line, bytes, output),
-        2 => make_settings(line, bytes, output),
-        3 => make_plan(line, bytes, output),
-        4 => make_body(line, bytes, output),
+fn make_other(family: usize, line: &[u8], bytes: &mut [u8], output: &mut [u8]) -> Said {
+    match family {
+        2 => make_time(line, bytes),
+        3 => make_control(line, bytes, output),
+        4 => make_settings(line, bytes, output),
+        5 => make_plan(line, bytes, output),
+        6 => make_body(line, bytes, output),
         _ => Said::bad(),
     }
 }
@@ -35,21 +46,14 @@ pub fn make(
     output: &mut [u8],
     payload: &mut [u8],
 ) -> Made {
-    if LONGEST_LINE < line.len() {
-        return Made {
-            encoder,
-            said: Said::bad(),
-        };
+    let family = family_of(line);
+    if family == 0 {
+        return make_enc(encoder, line, bytes, output);
     }
-    match place_of(b"enc dec", word(line, 0)) {
-        0 => make_enc(encoder, line, bytes, output),
-        1 => Made {
-            encoder,
-            said: make_dec(held, rows, line, bytes, payload),
-        },
-        _ => Made {
-            encoder,
-            said: make_other(line, bytes, output),
-        },
+    if family == 1 {
+        let said = make_dec(held, rows, line, bytes, payload);
+        return Made { encoder, said };
     }
+    let said = make_other(family, line, bytes, output);
+    Made { encoder, said }
 }

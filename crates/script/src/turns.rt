@@ -5,9 +5,9 @@ use crate::OUTPUT_LENGTH;
 use crate::PAYLOAD_LENGTH;
 use crate::TEXT_LENGTH;
 use crate::calls::make;
-use script_lines::LONGEST_LINE;
 use script_lines::State;
 use script_lines::end_answer;
+use script_lines::is_skipped;
 use script_lines::next_line;
 use script_lines::write_answers;
 use script_said::Said;
@@ -30,14 +30,6 @@ impl Kept {
             encoder: ChunkSerializer::new(),
         }
     }
-}
-
-// Whether the line is empty or a comment, and not too long.
-fn is_skipped(line: &[u8]) -> bool {
-    if line.len() == 0 {
-        return true;
-    }
-    line[0] == b'#' && line.len() <= LONGEST_LINE
 }
 
 // Answers the line that was taken last. After `bad line N` the run is over.

@@ -13,8 +13,13 @@ fn told(telling: Telling) -> Said {
     }
 }
 
+// A chunk size in force.
+pub fn size(size: u32) -> Said {
+    Said::new(b"size").number(size as u64)
+}
+
 // A message: its payload is the first `length` bytes of the payload buffer.
-fn message(type_id: u32, stream_id: u32, time: u32, length: u32, used: usize) -> Said {
+pub fn message(type_id: u32, stream_id: u32, time: u32, length: u32, used: usize) -> Said {
     let streamed = Said::new(b"message")
         .number(type_id as u64)
         .number(stream_id as u64);
@@ -62,7 +67,7 @@ pub fn make_dec(
     payload: &mut [u8],
 ) -> Said {
     let call = read_call(
-        b"dec new ROOM,dec feed BUFFER HEX,dec size SIZE",
+        b"dec new ROOM,dec feed BUFFER HEX,dec size SIZE,dec size?",
         line,
         bytes,
     );
@@ -72,6 +77,7 @@ pub fn make_dec(
         0 => told(in_place::make(held, rows, number)),
         1 => feed(held, rows, part(bytes, 0, call.length), number, payload),
         2 => told(in_place::set_max_chunk_size(held, number)),
+        3 => size(in_place::get_max_chunk_size(held)),
         _ => Said::bad(),
     }
 }

@@ -1,4 +1,5 @@
 // The calls of the encoder.
+use crate::dec_calls::size;
 use script_said::Said;
 use script_text::Call;
 use script_text::read_call;
@@ -15,18 +16,23 @@ pub struct Made {
     pub said: Said,
 }
 
-// A bad line, which leaves the encoder as it was.
-fn bad(encoder: ChunkSerializer) -> Made {
-    Made {
-        encoder,
-        said: Said::bad(),
-    }
+// An answer that leaves the encoder as it was.
+fn beside(encoder: ChunkSerializer, said: Said) -> Made {
+    Made { encoder, said }
 }
 
 // What a packet says.
 fn told(packet: Packet) -> Said {
     match packet {
         Packet::Written(count) => Said::wrote(count),
+        _ => Said::refused(refusal_of(packet) as u32),
+    }
+}
+
+// What a packet would say of its length.
+fn measured(packet: Packet) -> Said {
+    match packet {
+        Packet::Written(count) => Said::new(b"length").number(count as u64),
         _ => Said::refused(refusal_of(packet) as u32),
     }
 }
@@ -41,7 +47,7 @@ fn after(serialized: Serialized) -> Made {
     }
 }
 
-// Whether a call can be made of `enc msg`: the type is a byte, and the flags are 0 or 1.
+// Whether a call can be made of `enc msg` or `enc length`: the type is a byte, and the flags are 0 or 1.
 fn is_message(call: Call) -> bool {
     call.numbers[0] < 256 && call.numbers[3] < 2 && call.numbers[4] < 2
 }
@@ -49,7 +55,7 @@ fn is_message(call: Call) -> bool {
 // Makes the call `enc msg`.
 fn send(encoder: ChunkSerializer, call: Call, payload: &[u8], output: &mut [u8]) -> Made {
     if !is_message(call) {
-        return bad(encoder);
+        return beside(encoder, Said::bad());
     }
     let type_id = (call.numbers[0] % 256) as u8;
     let time = RtmpTimestamp::new(call.numbers[2]);
@@ -66,6 +72,25 @@ fn send(encoder: ChunkSerializer, call: Call, payload: &[u8], output: &mut [u8])
     ))
 }
 
+// Makes the call `enc length`.
+fn measure(encoder: ChunkSerializer, call: Call, payload: &[u8]) -> Said {
+    if !is_message(call) {
+        return Said::bad();
+    }
+    let type_id = (call.numbers[0] % 256) as u8;
+    let time = RtmpTimestamp::new(call.numbers[2]);
+    let is_forced = call.numbers[3] == 1;
+    let is_droppable = call.numbers[4] == 1;
+    measured(encoder.packet_length(
+        type_id,
+        call.numbers[1],
+        time,
+        payload,
+        is_forced,
+        is_droppable,
+    ))
+}
+
 // Makes the call `enc size`.
 fn change_size(encoder: ChunkSerializer, call: Call, output: &mut [u8]) -> Made {
     let time = RtmpTimestamp::new(call.numbers[1]);
@@ -76,9 +101,9 @@ fn change_size(encoder: ChunkSerializer, call: Call, output: &mut [u8]) -> Made 
 fn lent_by(call: Call) -> usize {
     let form = call.form;
     match form {
-        0 => 0,
         1 => call.numbers[5] as usize,
-        _ => call.numbers[2] as usize,
+        2 => call.numbers[2] as usize,
+        _ => 0,
     }
 }
 
@@ -92,7 +117,9 @@ fn make_lent(encoder: ChunkSerializer, call: Call, bytes: &[u8], output: &mut [u
         },
         1 => send(encoder, call, part(bytes, 0, call.length), output),
         2 => change_size(encoder, call, output),
-        _ => bad(encoder),
+        3 => beside(encoder, measure(encoder, call, part(bytes, 0, call.length))),
+        4 => beside(encoder, size(encoder.get_max_chunk_size())),
+        _ => beside(encoder, Said::bad()),
     }
 }
 
@@ -105,13 +132,13 @@ pub fn make_enc(
     output: &mut [u8],
 ) -> Made {
     let call = read_call(
-        b"enc new,enc msg TYPE STREAM TIME FORCED DROPPABLE OUT HEX,enc size SIZE TIME OUT",
+        b"enc new,enc msg TYPE STREAM TIME FORCED DROPPABLE OUT HEX,enc size SIZE TIME OUT,enc length TYPE STREAM TIME FORCED DROPPABLE HEX,enc size?",
         line,
         bytes,
     );
     let lent = lent_by(call);
     if output.len() < lent {
-        return bad(encoder);
+        return beside(encoder, Said::bad());
     }
     make_lent(encoder, call, bytes, &mut output[0..lent])
 }

@@ -4,5 +4,7 @@ mod dec_calls;
 mod enc_calls;
 
 pub use crate::dec_calls::make_dec;
+pub use crate::dec_calls::message;
+pub use crate::dec_calls::size;
 pub use crate::enc_calls::Made;
 pub use crate::enc_calls::make_enc;

@@ -6,6 +6,7 @@ mod output;
 mod state;
 
 pub use crate::lines::LONGEST_LINE;
+pub use crate::lines::is_skipped;
 pub use crate::lines::next_line;
 pub use crate::output::end_answer;
 pub use crate::output::write_answers;

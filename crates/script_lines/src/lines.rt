@@ -8,6 +8,14 @@ use test_parts::part;
 // The longest line, its end not counted.
 pub const LONGEST_LINE: usize = 262144;
 
+// Whether the line is empty or a comment, and not too long.
+pub fn is_skipped(line: &[u8]) -> bool {
+    if line.len() == 0 {
+        return true;
+    }
+    line[0] == b'#' && line.len() <= LONGEST_LINE
+}
+
 // Reads more behind the `count` bytes of an unfinished line. Where nothing comes they are the last
 // line, with which the run is over; where it is empty it is skipped as any other.
 fn read_on(state: State, count: usize, input: &mut [u8]) -> State {
