@@ -6,20 +6,44 @@ use protocol_control::Serialized;
 use script_said::Said;
 use script_text::Call;
 use script_text::read_call;
+use script_text::word;
 use test_parts::part;
+
+// The place of the body's name among the names.
+fn name_place(control: ProtocolControl) -> usize {
+    match control {
+        ProtocolControl::SetChunkSize { size: _ } => 0,
+        ProtocolControl::Abort { stream_id: _ } => 1,
+        ProtocolControl::Acknowledgement { sequence_number: _ } => 2,
+        ProtocolControl::WindowAcknowledgement { size: _ } => 3,
+        _ => 4,
+    }
+}
+
+// The body's first number.
+fn first_number(control: ProtocolControl) -> u32 {
+    match control {
+        ProtocolControl::SetChunkSize { size } => size,
+        ProtocolControl::Abort { stream_id } => stream_id,
+        ProtocolControl::Acknowledgement { sequence_number } => sequence_number,
+        ProtocolControl::WindowAcknowledgement { size } => size,
+        ProtocolControl::SetPeerBandwidth {
+            size,
+            limit_type: _,
+        } => size,
+    }
+}
 
 // A body as an answer: its name and its numbers.
 fn told(control: ProtocolControl) -> Said {
+    let name = word(b"size abort ack window bandwidth", name_place(control));
+    let said = Said::new(name).number(first_number(control) as u64);
     match control {
-        ProtocolControl::SetChunkSize { size } => Said::new(b"size").number(size as u64),
-        ProtocolControl::Abort { stream_id } => Said::new(b"abort").number(stream_id as u64),
-        ProtocolControl::Acknowledgement { sequence_number } => Said::new(b"ack").number(
-            sequence_number as u64,
-        ),
-        ProtocolControl::WindowAcknowledgement { size } => Said::new(b"window").number(size as u64),
-        ProtocolControl::SetPeerBandwidth { size, limit_type } => Said::new(b"bandwidth")
-            .number(size as u64)
-            .number(limit_type as u64),
+        ProtocolControl::SetPeerBandwidth {
+            size: _,
+            limit_type,
+        } => said.number(limit_type as u64),
+        _ => said,
     }
 }
 
@@ -80,13 +104,18 @@ fn lent_by(call: Call) -> u32 {
     call.numbers[1]
 }
 
-// Makes the call that the line is.
-pub fn make_body(line: &[u8], bytes: &mut [u8], output: &mut [u8]) -> Said {
-    let call = read_call(
+// Reads the line as a call.
+fn read_line(line: &[u8], bytes: &mut [u8]) -> Call {
+    read_call(
         b"body read size HEX,body read abort HEX,body read ack HEX,body read window HEX,body read bandwidth HEX,body write size N OUT,body write abort N OUT,body write ack N OUT,body write window N OUT,body write bandwidth N L OUT",
         line,
         bytes,
-    );
+    )
+}
+
+// Makes the call that the line is.
+pub fn make_body(line: &[u8], bytes: &mut [u8], output: &mut [u8]) -> Said {
+    let call = read_line(line, bytes);
     if call.form < 5 {
         return read(kind_of(call.form), part(bytes, 0, call.length));
     }

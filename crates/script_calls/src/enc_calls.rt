@@ -16,6 +16,15 @@ pub struct Made {
     pub said: Said,
 }
 
+// A message, its payload aside.
+struct Message {
+    type_id: u8,
+    stream_id: u32,
+    time: RtmpTimestamp,
+    is_forced: bool,
+    is_droppable: bool,
+}
+
 // An answer that leaves the encoder as it was.
 fn beside(encoder: ChunkSerializer, said: Said) -> Made {
     Made { encoder, said }
@@ -33,7 +42,7 @@ fn told(packet: Packet) -> Said {
 fn measured(packet: Packet) -> Said {
     match packet {
         Packet::Written(count) => Said::new(b"length").number(count as u64),
-        _ => Said::refused(refusal_of(packet) as u32),
+        _ => told(packet),
     }
 }
 
@@ -52,22 +61,30 @@ fn is_message(call: Call) -> bool {
     call.numbers[0] < 256 && call.numbers[3] < 2 && call.numbers[4] < 2
 }
 
+// The message of such a call, its payload aside.
+fn message_of(call: Call) -> Message {
+    Message {
+        type_id: (call.numbers[0] % 256) as u8,
+        stream_id: call.numbers[1],
+        time: RtmpTimestamp::new(call.numbers[2]),
+        is_forced: call.numbers[3] == 1,
+        is_droppable: call.numbers[4] == 1,
+    }
+}
+
 // Makes the call `enc msg`.
 fn send(encoder: ChunkSerializer, call: Call, payload: &[u8], output: &mut [u8]) -> Made {
     if !is_message(call) {
         return beside(encoder, Said::bad());
     }
-    let type_id = (call.numbers[0] % 256) as u8;
-    let time = RtmpTimestamp::new(call.numbers[2]);
-    let is_forced = call.numbers[3] == 1;
-    let is_droppable = call.numbers[4] == 1;
+    let m = message_of(call);
     after(encoder.serialize(
-        type_id,
-        call.numbers[1],
-        time,
+        m.type_id,
+        m.stream_id,
+        m.time,
         payload,
-        is_forced,
-        is_droppable,
+        m.is_forced,
+        m.is_droppable,
         output,
     ))
 }
@@ -77,17 +94,14 @@ fn measure(encoder: ChunkSerializer, call: Call, payload: &[u8]) -> Said {
     if !is_message(call) {
         return Said::bad();
     }
-    let type_id = (call.numbers[0] % 256) as u8;
-    let time = RtmpTimestamp::new(call.numbers[2]);
-    let is_forced = call.numbers[3] == 1;
-    let is_droppable = call.numbers[4] == 1;
+    let m = message_of(call);
     measured(encoder.packet_length(
-        type_id,
-        call.numbers[1],
-        time,
+        m.type_id,
+        m.stream_id,
+        m.time,
         payload,
-        is_forced,
-        is_droppable,
+        m.is_forced,
+        m.is_droppable,
     ))
 }
 
