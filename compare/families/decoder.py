@@ -195,7 +195,7 @@ class Feeder:
             self.writer.call("dec size %d" % r.choice(GOOD_SIZES))
         if often(r, 3):
             self.writer.call(r.choice([
-                "dec size %d" % r.choice(BAD_SIZES),
+                "dec size %d" % r.choice(BAD_SIZES), "dec size?",
                 "dec feed %d %s" % (r.randrange(self.room), hexed(random_bytes(r, r.randrange(4)))),
                 "dec feed %d -" % (self.room - 1),
                 "dec feed %d -" % self.buffer]))
@@ -204,4 +204,4 @@ class Feeder:
         for _ in range(self.r.randrange(5)):
             self.writer.call(self.r.choice([
                 "dec feed %d 04" % buffer, "dec feed %d -" % buffer, "dec feed 0 -",
-                "dec size 128", "dec size 0", "dec size %d" % HALF]))
+                "dec size 128", "dec size 0", "dec size %d" % HALF, "dec size?"]))

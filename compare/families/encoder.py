@@ -1,5 +1,6 @@
 """Runs of an encoder: mixes of forced and droppable messages, sizes, and times that go back."""
 import itertools
+import sys
 
 from .common import BAD_SIZES, FULL, GOOD_SIZES, HALF, MOST_OUTPUT, NEAR, ROUND, TIMES, Driver, chosen, hexed, often, random_bytes
 
@@ -49,7 +50,10 @@ def run(r, writer, scout):
         if often(r, 5):
             writer.call("enc size %d %d %d" % (r.choice(BAD_SIZES), r.choice(TIMES), r.choice([0, 16, 100])))
         elif often(r, 4):
-            writer.call(with_output(talker.message(length=0), r.choice([0, 1, 100])))
+            empty = talker.message(length=0)
+            writer.call(r.choice([with_output(empty, r.choice([0, 1, 100])), asked_length(empty)]))
+        elif often(r, 4):
+            writer.call("enc size?")
         else:
             aimed_call(r, writer, scout, talker.size_change() if often(r, 10) else talker.message())
 
@@ -62,6 +66,10 @@ def longest(writer):
 def aimed_call(r, writer, scout, call):
     """With output that is plenty, exactly enough, or short, most often by one byte."""
     need = scout.need(call)
+    if call[0].startswith("enc msg") and often(r, 15):
+        said = writer.call(asked_length(call))
+        if need is not None and said != ["length", str(need)]:
+            sys.exit("the driver says %s of a message that takes %d bytes: %s" % (said, need, call[0]))
     if need is None:
         writer.call(with_output(call, MOST_OUTPUT))
         return
@@ -77,6 +85,12 @@ def with_output(call, out):
     """A call is held as what comes before OUT and what comes after it."""
     before, after = call
     return "%s %d%s" % (before, out, after)
+
+
+def asked_length(message):
+    """The call that asks what a message would take."""
+    before, after = message
+    return before.replace("enc msg", "enc length") + after
 
 
 class Talker:

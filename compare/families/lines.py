@@ -9,7 +9,8 @@ BAD_LINES = [
     b"control read", b"control read 00 00", b"control write begin 1", b"control write buffer 1 6", b"control write begin 1 2 6",
     b"control write none 1 6", b"control write Begin 1 6", b"enc", b"enc new 1", b"enc old", b"enc msg",
     b"enc msg 9 1 0 0 0 10", b"enc msg 9 1 0 0 0 10 00 00", b"enc size 1 1", b"enc size 1 0 10 -", b"dec", b"dec new",
-    b"dec new 1 1", b"dec feed 10", b"dec size", b"dec size 1 1",
+    b"dec new 1 1", b"dec feed 10", b"dec size", b"dec size 1 1", b"enc length 9 1 0 0 0", b"enc length 9 1 0 0 0 10 00",
+    b"enc size? 1", b"enc size ?", b"enc length?", b"dec size? 1", b"dec size?1", b"dec size ?", b"dec length 9 1 0 0 0 00",
     # numbers
     b"time add 01 2", b"time add 00 2", b"time add -1 2", b"time add +1 2", b"time add 1 4294967296",
     b"time distance -1 2", b"time distance 4294967296 0",
@@ -18,7 +19,8 @@ BAD_LINES = [
     b"enc msg 9 4294967296 0 0 0 10 00", b"enc msg 9 1 4294967296 0 0 10 00", b"enc msg 9 1 0 2 0 10 00",
     b"enc msg 9 1 0 0 2 10 00", b"enc msg 9 1 0 00 0 10 00", b"enc msg 9 1 0 - 0 10 00", b"enc msg 9 1 0 0 0 131073 00",
     b"enc size 4294967296 0 10", b"enc size 1 0 131073", b"dec new -1", b"dec new 4294967296", b"dec feed 262145 00",
-    b"dec size 4294967296",
+    b"dec size 4294967296", b"enc length 256 1 0 0 0 00", b"enc length 9 4294967296 0 0 0 00",
+    b"enc length 9 1 4294967296 0 0 00", b"enc length 9 1 0 2 0 00", b"enc length 9 1 0 0 2 00",
     # hex
     b"control read 0", b"control read 000", b"control read 0g", b"control read ", b"control read --", b"control read -0",
     b"enc msg 9 1 0 0 0 10 0", b"dec feed 10 0", b"dec feed 10 00 ",
@@ -31,6 +33,7 @@ GOOD_LINES = [
     b"time add 4294967295 4294967295", b"time distance 0 2147483648", b"control write buffer 1 500 131072", b"control read -",
     b"enc msg 255 4294967295 4294967295 1 1 131072 0A", b"enc size 2147483647 4294967295 131072", b"dec new 4294967295",
     b"dec new 1", b"dec feed 262144 -", b"dec feed 0 -", b"dec size 4294967295",
+    b"enc length 255 4294967295 4294967295 1 1 0A", b"enc size?", b"dec size?",
 ]
 
 

@@ -11,6 +11,8 @@ pub enum Answer {
     Distance(i64),
     Event(Event),
     Wrote(Vec<u8>),
+    Length(usize),
+    Size(u32),
     Message {
         message: Message,
         used: usize,
@@ -48,6 +50,8 @@ impl fmt::Display for Answer {
             Answer::Distance(distance) => write!(f, "{}", distance),
             Answer::Event(event) => write!(f, "{}", event),
             Answer::Wrote(bytes) => write!(f, "wrote {} {}", bytes.len(), hex(bytes)),
+            Answer::Length(length) => write!(f, "length {}", length),
+            Answer::Size(size) => write!(f, "size {}", size),
             Answer::Message { message: m, used } => write!(
                 f,
                 "message {} {} {} {} used {} {}",

@@ -46,9 +46,12 @@ pub enum Call {
     NewEncoder,
     Encode { message: Message, forced: bool, droppable: bool, out: usize },
     EncoderSize { size: u32, time: u32, out: usize },
+    EncodedLength { message: Message, forced: bool },
+    AskEncoderSize,
     NewDecoder { room: u32 },
     Feed { buffer: u32, piece: Vec<u8> },
     DecoderSize { size: u32 },
+    AskDecoderSize,
 }
 
 pub enum Line {
@@ -80,11 +83,14 @@ fn read_call(line: &[u8]) -> Option<Call> {
         [b"enc", b"size", size, time, out] => {
             Some(Call::EncoderSize { size: number(size)?, time: number(time)?, out: output(out)? })
         }
+        [b"enc", b"length", ref rest @ ..] => read_length(rest),
+        [b"enc", b"size?"] => Some(Call::AskEncoderSize),
         [b"dec", b"new", room] => Some(Call::NewDecoder { room: number(room)? }),
         [b"dec", b"feed", buffer, piece] => {
             Some(Call::Feed { buffer: number_up_to(MOST_BUFFER, buffer)?, piece: bytes(piece)? })
         }
         [b"dec", b"size", size] => Some(Call::DecoderSize { size: number(size)? }),
+        [b"dec", b"size?"] => Some(Call::AskDecoderSize),
         _ => None,
     }
 }
@@ -127,18 +133,34 @@ fn event_of_one_number(name: &[u8], n: u32) -> Option<Event> {
 fn read_encode(words: &[&[u8]]) -> Option<Call> {
     match *words {
         [kind, stream, time, forced, droppable, out, payload] => Some(Call::Encode {
-            message: Message {
-                kind: number_up_to(255, kind)? as u8,
-                stream: number(stream)?,
-                time: number(time)?,
-                payload: bytes(payload)?,
-            },
+            message: read_message(kind, stream, time, payload)?,
             forced: flag(forced)?,
             droppable: flag(droppable)?,
             out: output(out)?,
         }),
         _ => None,
     }
+}
+
+/// Whether a message may be dropped changes nothing of its own packet.
+fn read_length(words: &[&[u8]]) -> Option<Call> {
+    match *words {
+        [kind, stream, time, forced, droppable, payload] => {
+            flag(droppable)?;
+            let message = read_message(kind, stream, time, payload)?;
+            Some(Call::EncodedLength { message, forced: flag(forced)? })
+        }
+        _ => None,
+    }
+}
+
+fn read_message(kind: &[u8], stream: &[u8], time: &[u8], payload: &[u8]) -> Option<Message> {
+    Some(Message {
+        kind: number_up_to(255, kind)? as u8,
+        stream: number(stream)?,
+        time: number(time)?,
+        payload: bytes(payload)?,
+    })
 }
 
 fn number(word: &[u8]) -> Option<u32> {

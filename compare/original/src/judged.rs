@@ -27,6 +27,10 @@ impl Judged {
             return self.feed(*buffer, piece);
         }
         match self.table.answer(call) {
+            // The original's run is over, and a decoder that was closed from the start is none of its own.
+            Answer::Size(size) if self.table.decoder.closed().is_some() && is_of_decoder(call) => {
+                Answer::Size(size)
+            }
             Answer::Refused(number @ (15 | 16)) => self.refused_body(number, call),
             // Not passed on: the original would take it, or would change what it remembers.
             Answer::Refused(number) => Answer::Refused(number),
@@ -75,6 +79,10 @@ impl Judged {
             other => other,
         }
     }
+}
+
+fn is_of_decoder(call: &Call) -> bool {
+    matches!(call, Call::AskDecoderSize)
 }
 
 /// What no script can say: its lines and its payload buffer are too short for the longest message.

@@ -18,6 +18,13 @@ pub struct Original {
     deserializer: ChunkDeserializer,
     /// The original does not tell its encoder's size, and with 0 it would never return.
     encoder_size: u32,
+    /// What the encoder was asked since it was new, so that another can be brought to where it is.
+    asked: Vec<Asked>,
+}
+
+enum Asked {
+    Message { payload: MessagePayload, forced: bool, droppable: bool },
+    Size { size: u32, time: u32 },
 }
 
 impl Original {
@@ -26,6 +33,7 @@ impl Original {
             serializer: ChunkSerializer::new(),
             deserializer: ChunkDeserializer::new(),
             encoder_size: 128,
+            asked: Vec::new(),
         }
     }
 
@@ -37,12 +45,15 @@ impl Original {
             Call::NewEncoder => {
                 self.serializer = ChunkSerializer::new();
                 self.encoder_size = 128;
+                self.asked.clear();
                 Ok(Answer::Ok)
             }
             Call::Encode { message, forced, droppable, .. } => {
                 self.encode(message, *forced, *droppable)
             }
             Call::EncoderSize { size, time, .. } => self.change_encoder_size(*size, *time),
+            Call::EncodedLength { message, forced } => self.length(message, *forced),
+            Call::AskEncoderSize => Ok(Answer::Size(self.encoder_size)),
             Call::NewDecoder { .. } => {
                 self.deserializer = ChunkDeserializer::new();
                 Ok(Answer::Ok)
@@ -51,6 +62,7 @@ impl Original {
             Call::DecoderSize { size } => {
                 ask(|| self.deserializer.set_max_chunk_size(*size as usize).map(|()| Answer::Ok))
             }
+            Call::AskDecoderSize => Ok(Answer::Size(self.deserializer.get_max_chunk_size() as u32)),
         };
         answer.unwrap_or_else(Answer::Original)
     }
@@ -86,24 +98,51 @@ impl Original {
         if self.encoder_size == 0 && !m.payload.is_empty() {
             return Err(Surprise::NeverReturns);
         }
-        let payload = MessagePayload {
-            timestamp: RtmpTimestamp::new(m.time),
-            type_id: m.kind,
-            message_stream_id: m.stream,
-            data: Bytes::from(m.payload.clone()),
-        };
+        let payload = payload_of(m);
         let packet = ask(|| self.serializer.serialize(&payload, forced, droppable))?;
+        self.asked.push(Asked::Message { payload, forced, droppable });
         Ok(Answer::Wrote(packet.bytes))
+    }
+
+    /// The original cannot be asked for a length. A second encoder is asked all that this one was, and
+    /// then writes the message.
+    fn length(&mut self, m: &Message, forced: bool) -> Result<Answer, Surprise> {
+        if self.encoder_size == 0 && !m.payload.is_empty() {
+            return Err(Surprise::NeverReturns);
+        }
+        let mut second = ChunkSerializer::new();
+        for asked in &self.asked {
+            match asked {
+                Asked::Message { payload, forced, droppable } => {
+                    ask(|| second.serialize(payload, *forced, *droppable))?
+                }
+                Asked::Size { size, time } => {
+                    ask(|| second.set_max_chunk_size(*size, RtmpTimestamp::new(*time)))?
+                }
+            };
+        }
+        let packet = ask(|| second.serialize(&payload_of(m), forced, false))?;
+        Ok(Answer::Length(packet.bytes.len()))
     }
 
     fn change_encoder_size(&mut self, size: u32, time: u32) -> Result<Answer, Surprise> {
         if self.encoder_size == 0 {
             return Err(Surprise::NeverReturns);
         }
-        let time = RtmpTimestamp::new(time);
-        let packet = ask(|| self.serializer.set_max_chunk_size(size, time))?;
+        let at = RtmpTimestamp::new(time);
+        let packet = ask(|| self.serializer.set_max_chunk_size(size, at))?;
         self.encoder_size = size;
+        self.asked.push(Asked::Size { size, time });
         Ok(Answer::Wrote(packet.bytes))
+    }
+}
+
+fn payload_of(m: &Message) -> MessagePayload {
+    MessagePayload {
+        timestamp: RtmpTimestamp::new(m.time),
+        type_id: m.kind,
+        message_stream_id: m.stream,
+        data: Bytes::from(m.payload.clone()),
     }
 }
 

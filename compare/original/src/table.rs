@@ -53,6 +53,10 @@ impl Table {
             Call::EncoderSize { size, time, out } => {
                 written(self.encoder.change_size(*size, *time, *out))
             }
+            Call::EncodedLength { message, forced } => {
+                self.encoder.length(message, *forced).map_or_else(Answer::Refused, Answer::Length)
+            }
+            Call::AskEncoderSize => Answer::Size(self.encoder.size()),
             Call::NewDecoder { room } => {
                 self.decoder = Decoder::new(*room);
                 self.decoder.closed().map_or(Answer::Ok, Answer::Refused)
@@ -61,6 +65,7 @@ impl Table {
             Call::DecoderSize { size } => {
                 self.decoder.tell_size(*size).map_or(Answer::Ok, Answer::Refused)
             }
+            Call::AskDecoderSize => Answer::Size(self.decoder.size()),
         }
     }
 }

@@ -1,78 +1,83 @@
-// The calls of the decoder.
-use crate::outcomes::Outcome;
-use deserializer::ChunkDeserializer;
-use deserializer::Decoded;
-use deserializer::Telling;
-use deserializer::Told;
+// The calls of the decoder, over the numbers and the table that are lent.
+use in_place::Answer;
+use in_place::Telling;
+use script_said::Said;
 use script_text::read_call;
 use test_parts::part;
 
-// What becomes of a call, and the decoder after it.
-pub struct Fed {
-    pub decoder: ChunkDeserializer,
-    pub outcome: Outcome,
-}
-
-// A bad line, which leaves the decoder as it was.
-fn bad(decoder: ChunkDeserializer) -> Fed {
-    Fed {
-        decoder,
-        outcome: Outcome::BadLine,
-    }
-}
-
 // Whether a room or a size was taken.
-fn said(telling: Telling) -> Outcome {
+fn told(telling: Telling) -> Said {
     match telling {
-        Telling::Taken => Outcome::Ok,
-        Telling::Refused(number) => Outcome::Refused(number),
+        Telling::Taken => Said::new(b"ok"),
+        Telling::Refused(number) => Said::refused(number),
     }
 }
 
-// After `dec new` or `dec size`. The decoder that it handed back is in place of the last, after a
-// refusal too.
-fn after_telling(told: Told) -> Fed {
-    let decoder = told.deserializer;
-    let telling = told.telling;
-    Fed {
-        decoder,
-        outcome: said(telling),
-    }
+// A chunk size in force.
+pub fn size(size: u32) -> Said {
+    Said::new(b"size").number(size as u64)
 }
 
-// After `dec feed`.
-fn after_feeding(decoded: Decoded) -> Fed {
-    let decoder = decoded.deserializer;
-    let answer = decoded.answer;
-    Fed {
-        decoder,
-        outcome: Outcome::Decoded(answer),
+// A message: its payload is the first `length` bytes of the payload buffer.
+pub fn message(type_id: u32, stream_id: u32, time: u32, length: u32, used: usize) -> Said {
+    let streamed = Said::new(b"message")
+        .number(type_id as u64)
+        .number(stream_id as u64);
+    let lengthy = streamed.number(time as u64).number(length as u64);
+    lengthy.used(used).payload(length as usize)
+}
+
+// What a feed answers.
+fn answered(answer: Answer) -> Said {
+    match answer {
+        Answer::Message {
+            type_id,
+            stream_id,
+            timestamp,
+            length,
+            used,
+        } => message(type_id, stream_id, timestamp.value, length, used),
+        Answer::More { used } => Said::new(b"more").number(used as u64),
+        Answer::Refused { number, used } => Said::refused(number).used(used),
     }
 }
 
 // Makes the call `dec feed` with the first `buffer` bytes of the payload buffer. More than there are
 // cannot be lent.
-fn feed(decoder: ChunkDeserializer, piece: &[u8], buffer: u32, payload: &mut [u8]) -> Fed {
+fn feed(
+    held: &mut [u32; 24],
+    rows: &mut [u32; 384],
+    piece: &[u8],
+    buffer: u32,
+    payload: &mut [u8],
+) -> Said {
     let lent = buffer as usize;
     if payload.len() < lent {
-        return bad(decoder);
+        return Said::bad();
     }
-    after_feeding(decoder.get_next_message(piece, &mut payload[0..lent]))
+    answered(in_place::next_message(held, rows, piece, &mut payload[0..lent]))
 }
 
 // Makes the call that the line is.
-pub fn make(decoder: ChunkDeserializer, line: &[u8], bytes: &mut [u8], payload: &mut [u8]) -> Fed {
+pub fn make_dec(
+    held: &mut [u32; 24],
+    rows: &mut [u32; 384],
+    line: &[u8],
+    bytes: &mut [u8],
+    payload: &mut [u8],
+) -> Said {
     let call = read_call(
-        b"dec new ROOM,dec feed BUFFER HEX,dec size SIZE",
+        b"dec new ROOM,dec feed BUFFER HEX,dec size SIZE,dec size?",
         line,
         bytes,
     );
     let number = call.numbers[0];
     let form = call.form;
     match form {
-        0 => after_telling(ChunkDeserializer::new(number)),
-        1 => feed(decoder, part(bytes, 0, call.length), number, payload),
-        2 => after_telling(decoder.set_max_chunk_size(number)),
-        _ => bad(decoder),
+        0 => told(in_place::make(held, rows, number)),
+        1 => feed(held, rows, part(bytes, 0, call.length), number, payload),
+        2 => told(in_place::set_max_chunk_size(held, number)),
+        3 => size(in_place::get_max_chunk_size(held)),
+        _ => Said::bad(),
     }
 }

@@ -1,19 +1,10 @@
-// The calls of a script's lines, made on a codec that is kept from line to line. A test tool: it is proved safe and ending, and
-// promises nothing further.
-mod body_calls;
-mod calls;
-mod control_calls;
+// The calls of lines that are made on an encoder or a decoder, which is kept from line to line. A test tool: it is proved safe and
+// ending, and promises nothing further.
 mod dec_calls;
 mod enc_calls;
-mod kept;
-mod outcomes;
-mod plan_calls;
-mod queues;
-mod settings_calls;
-mod time_calls;
 
-pub use crate::calls::LONGEST_LINE;
-pub use crate::calls::make;
-pub use crate::kept::Codec;
-pub use crate::kept::Made;
-pub use crate::outcomes::Outcome;
+pub use crate::dec_calls::make_dec;
+pub use crate::dec_calls::message;
+pub use crate::dec_calls::size;
+pub use crate::enc_calls::Made;
+pub use crate::enc_calls::make_enc;

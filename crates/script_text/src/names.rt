@@ -1,13 +1,11 @@
 // Lists of names.
 use crate::numbers::Number;
-use crate::text::put_words;
 use crate::words::find;
-use crate::words::word;
 use check::same;
 use test_parts::part;
 
 // The user control events that have one number.
-const EVENTS: [u8; 44] = *b"begin end dry recorded ping pong empty ready";
+pub const EVENTS: [u8; 44] = *b"begin end dry recorded ping pong empty ready";
 
 // The place of the name in the list; how many there are where it is none of them.
 pub fn place_of(names: &[u8], name: &[u8]) -> usize {
@@ -34,9 +32,4 @@ pub fn read_event_name(name: &[u8]) -> Number {
         return Number::Value(place as u32);
     }
     Number::Bad
-}
-
-// Puts the name of the event at `place` behind the text.
-pub fn put_event_name(text: &mut [u8], filled: usize, place: usize) -> usize {
-    put_words(text, filled, word(&EVENTS, place))
 }

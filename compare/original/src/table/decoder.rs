@@ -89,6 +89,11 @@ impl Decoder {
         self.closed
     }
 
+    /// A closed decoder has the size that it had.
+    pub fn size(&self) -> u32 {
+        self.size
+    }
+
     /// Order: closed, 3, 4, 8.
     pub fn tell_size(&mut self, size: u32) -> Option<u8> {
         // 8 counts from the first byte of the first basic header to the byte that answers.

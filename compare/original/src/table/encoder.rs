@@ -34,12 +34,7 @@ impl Encoder {
         droppable: bool,
         out: usize,
     ) -> Result<Vec<u8>, u8> {
-        if message.payload.is_empty() {
-            return Err(1);
-        }
-        if message.payload.len() > LONGEST_MESSAGE as usize {
-            return Err(2);
-        }
+        refused_payload(&message.payload)?;
         let chunk_stream = chunk_stream_of(message.kind);
         let (first_type, field) = self.first_chunk(message, forced);
         let packet = self.packet(message, forced, first_type, field);
@@ -56,6 +51,17 @@ impl Encoder {
         };
         self.remembered.insert(chunk_stream, remembered);
         Ok(packet)
+    }
+
+    /// What the message would take. Order: 1, 2.
+    pub fn length(&self, message: &Message, forced: bool) -> Result<usize, u8> {
+        refused_payload(&message.payload)?;
+        let (first_type, field) = self.first_chunk(message, forced);
+        Ok(self.packet(message, forced, first_type, field).len())
+    }
+
+    pub fn size(&self) -> u32 {
+        self.size
     }
 
     /// Order: 3, 4, 5. "A size change sends message type 1, stream 0, forced, not droppable, its
@@ -103,6 +109,14 @@ impl Encoder {
             packet.extend_from_slice(part);
         }
         packet
+    }
+}
+
+fn refused_payload(payload: &[u8]) -> Result<(), u8> {
+    match payload.len() {
+        0 => Err(1),
+        length if length > LONGEST_MESSAGE as usize => Err(2),
+        _ => Ok(()),
     }
 }
 
