@@ -5,15 +5,6 @@ use crate::original;
 /// The longest message that our decoder takes.
 pub const ROOM: u32 = 65536;
 
-/// How the messages of a stream follow each other.
-#[derive(Clone, Copy, PartialEq)]
-pub enum Headers {
-    /// Times a little uneven, so that headers of types 2 and 3 both come.
-    Mixed,
-    /// All of one type, after the first.
-    OfType(u8),
-}
-
 pub struct Input {
     pub size: u32,
     pub width: usize,
@@ -29,16 +20,16 @@ pub struct Input {
 const KINDS: [u8; 5] = [9, 18, 8, 4, 20];
 
 impl Input {
-    pub fn new(size: u32, width: usize, streams: usize, count: usize, headers: Headers) -> Input {
+    pub fn new(size: u32, width: usize, streams: usize, count: usize) -> Input {
         let mut input = Input {
             size,
             width,
-            kinds: (0..count).map(|i| kind(i, streams, headers)).collect(),
-            times: (0..count).map(|i| time(i, headers)).collect(),
+            kinds: (0..count).map(|i| KINDS[i % streams]).collect(),
+            times: (0..count).map(time).collect(),
             source: noise(width * count),
             wire: Vec::new(),
         };
-        input.wire = original::wire(&input, headers == Headers::OfType(0));
+        input.wire = original::wire(&input);
         input
     }
 
@@ -47,21 +38,9 @@ impl Input {
     }
 }
 
-/// Types 18 and 19 share a chunk stream, and in turn need headers of type 1.
-fn kind(i: usize, streams: usize, headers: Headers) -> u8 {
-    match headers {
-        Headers::OfType(1) => 18 + (i % 2) as u8,
-        _ => KINDS[i % streams],
-    }
-}
-
-fn time(i: usize, headers: Headers) -> u32 {
-    let uneven = match headers {
-        Headers::Mixed => i % 3,
-        Headers::OfType(2) => i % 2 * 5,
-        Headers::OfType(_) => 0,
-    };
-    (i * 20 + uneven) as u32
+/// A little uneven, so that headers of types 2 and 3 both come.
+fn time(i: usize) -> u32 {
+    (i * 20 + i % 3) as u32
 }
 
 /// Bytes without a pattern, the same in every run.

@@ -5,6 +5,7 @@ mod input;
 mod original;
 mod ours;
 mod rows;
+mod stored;
 mod table;
 mod tally;
 
@@ -12,14 +13,27 @@ use clock::Effort;
 use std::process::ExitCode;
 use std::time::Duration;
 
-const USAGE: &str = "usage: bench_driver [ROUNDS [MILLISECONDS]]";
+const USAGE: &str = "usage: bench_driver ROUNDS MACHINE RATIOS [--store]";
+
+/// How long a timing lasts at least.
+const LEAST: Duration = Duration::from_millis(2);
+
+/// What bench/run says.
+struct Order {
+    effort: Effort,
+    /// The kind of this machine.
+    machine: String,
+    /// The file of stored ratios, and whether this run's are to be stored there.
+    ratios: String,
+    is_stored: bool,
+}
 
 fn main() -> ExitCode {
-    let Some(effort) = effort() else {
+    let Some(order) = order() else {
         eprintln!("{USAGE}");
         return ExitCode::from(2);
     };
-    match run(effort) {
+    match run(&order) {
         Ok(()) => ExitCode::SUCCESS,
         Err(error) => {
             eprintln!("bench/run: {error}");
@@ -28,55 +42,68 @@ fn main() -> ExitCode {
     }
 }
 
-/// By default the best of 25 timings of 2 milliseconds: where others use the machine too, some of them are left alone.
-fn effort() -> Option<Effort> {
-    let numbers: Result<Vec<u32>, _> = std::env::args().skip(1).map(|word| word.parse()).collect();
-    let numbers = numbers.ok()?;
-    let number = |i, otherwise: u32| numbers.get::<usize>(i).copied().unwrap_or(otherwise).max(1);
-    let least = Duration::from_millis(u64::from(number(1, 2)));
-    (numbers.len() <= 2).then_some(Effort { rounds: number(0, 25), least })
+fn order() -> Option<Order> {
+    let words: Vec<String> = std::env::args().skip(1).collect();
+    let is_stored = match words.get(3).map(String::as_str) {
+        None => false,
+        Some("--store") if words.len() == 4 => true,
+        Some(_) => return None,
+    };
+    let rounds: u32 = words.first()?.parse().ok()?;
+    let effort = Effort { rounds: rounds.max(1), least: LEAST };
+    Some(Order { effort, machine: words.get(1)?.clone(), ratios: words.get(2)?.clone(), is_stored })
 }
 
-fn run(effort: Effort) -> Result<(), String> {
-    small_messages(effort)?;
+fn run(order: &Order) -> Result<(), String> {
+    let ratios = main_table(order.effort)?;
+    both_forms(order.effort)?;
+    println!("\nBoth sides agreed on every count and checksum.");
+    if order.is_stored {
+        return stored::write(&order.ratios, &order.machine, &ratios);
+    }
+    compare(order, &ratios)
+}
+
+/// Prints each row, and answers its ratio to the original.
+fn main_table(effort: Effort) -> Result<Vec<(String, f64)>, String> {
     println!("\n{}", table::HEAD);
-    let rows = rows::all();
-    let mut short = 0;
-    for row in &rows {
-        let (line, met) = table::line(row, &row.measure(effort)?);
+    let (mut ratios, mut short) = (Vec::new(), 0);
+    for row in rows::all() {
+        let times = row.measure(effort)?;
+        let (line, met) = table::line(&row, &times);
         println!("{line}");
-        short += u32::from(!met);
+        short += usize::from(!met);
+        ratios.push((row.name(), times.original / times.ours));
     }
     println!("\nMB/s: millions of payload bytes a second, the best of {} timings.", effort.rounds);
     println!("Our buffers are lent once and cleared by nobody; the original makes its own for each message.");
-    println!("Both sides agreed on every count and checksum.");
-    println!(
-        "{} rows, {} have what is wanted, {short} fall short",
-        rows.len(),
-        rows.len() as u32 - short
-    );
-    Ok(())
+    let all = ratios.len();
+    println!("{all} rows, {} have what is wanted, {short} fall short", all - short);
+    Ok(ratios)
 }
 
-#[cfg(feature = "core")]
-fn small_messages(effort: Effort) -> Result<(), String> {
-    println!("\n{}", table::CORE_HEAD);
-    for piece in [1, 1460, rows::WHOLE] {
-        for of_type in 0..4 {
-            let times = rows::measure_core(of_type, piece, effort)?;
-            let pieces = table::pieces(piece);
-            println!(
-                "| {of_type} | {pieces} | {:.1} | {:.1} | {:.1} |",
-                times[0], times[1], times[2]
-            );
-        }
+fn both_forms(effort: Effort) -> Result<(), String> {
+    println!("\n{}", table::BOTH_HEAD);
+    for row in rows::both_forms() {
+        println!("{}", table::both_line(&row, &rows::measure_both(&row, effort)?));
     }
-    println!("\nNanoseconds a message of 16 bytes, decoded: by the public calls, which take and hand back the state by value,");
-    println!("by the private core over a lent table, which a form in place would call, and by the original.");
+    println!("\nNanoseconds a message, decoded, of one stream in chunks of 4096.");
     Ok(())
 }
 
-#[cfg(not(feature = "core"))]
-fn small_messages(_: Effort) -> Result<(), String> {
+/// Names each row that has lost a quarter of its stored ratio.
+fn compare(order: &Order, ratios: &[(String, f64)]) -> Result<(), String> {
+    let stored = stored::read(&order.ratios)?;
+    if stored.machine != order.machine {
+        println!(
+            "The stored ratios are of another machine, {}; this is {}. They depend on it.",
+            stored.machine, order.machine
+        );
+    }
+    let losses = stored.losses(ratios);
+    println!("{} rows have lost a quarter of their stored ratio to the original", losses.len());
+    for loss in losses {
+        println!("  {loss}");
+    }
     Ok(())
 }

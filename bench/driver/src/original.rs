@@ -59,9 +59,9 @@ pub fn encode(size: u32, messages: &[MessagePayload], every: usize) -> Tally {
     tally
 }
 
-/// All packets in a row, as a peer would read them. Forced headers are all of type 0.
-pub fn wire(input: &Input, forced: bool) -> Vec<u8> {
+/// All packets in a row, as a peer would read them.
+pub fn wire(input: &Input) -> Vec<u8> {
     let mut encoder = encoder(input.size);
-    let packet = |m| encoder.serialize(m, forced, false).expect("the message is valid").bytes;
+    let packet = |m| encoder.serialize(m, false, false).expect("the message is valid").bytes;
     messages(input).iter().flat_map(packet).collect()
 }

@@ -3,20 +3,10 @@
 use crate::input::{Input, ROOM};
 use crate::tally::Tally;
 
-type Decode = unsafe extern "C" fn(
-    room: u32,
-    size: u32,
-    input: *const u8,
-    input_len: usize,
-    piece: usize,
-    every: usize,
-    payload: *mut u8,
-    payload_len: usize,
-    report: *mut u64,
-);
-
 extern "C" {
     fn bench_decode(
+        held: *mut u32,
+        rows: *mut u32,
         room: u32,
         size: u32,
         input: *const u8,
@@ -27,8 +17,7 @@ extern "C" {
         payload_len: usize,
         report: *mut u64,
     );
-    #[cfg(feature = "core")]
-    fn core_decode(
+    fn bench_decode_by_value(
         room: u32,
         size: u32,
         input: *const u8,
@@ -60,24 +49,64 @@ fn tally(report: [u64; 4]) -> Tally {
     Tally { messages: report[0], bytes: report[2], sum: report[3] }
 }
 
-fn decode_by(f: Decode, input: &Input, piece: usize, every: usize, payload: &mut [u8]) -> Tally {
+/// What a decoder is held in.
+pub struct Lent {
+    held: [u32; 24],
+    rows: [u32; 384],
+}
+
+impl Lent {
+    pub fn new() -> Lent {
+        Lent { held: [0; 24], rows: [0; 384] }
+    }
+}
+
+/// By the decoder in place.
+pub fn decode(
+    lent: &mut Lent,
+    input: &Input,
+    piece: usize,
+    every: usize,
+    payload: &mut [u8],
+) -> Tally {
     let (wire, mut report) = (&input.wire, [0u64; 4]);
-    let (at, len) = (payload.as_mut_ptr(), payload.len());
-    // The slices are whole and do not overlap; the report has the four numbers that the callee writes.
+    // The slices are whole and nothing overlaps; the arrays have as many numbers as the callee says.
     unsafe {
-        f(ROOM, input.size, wire.as_ptr(), wire.len(), piece, every, at, len, report.as_mut_ptr())
+        bench_decode(
+            lent.held.as_mut_ptr(),
+            lent.rows.as_mut_ptr(),
+            ROOM,
+            input.size,
+            wire.as_ptr(),
+            wire.len(),
+            piece,
+            every,
+            payload.as_mut_ptr(),
+            payload.len(),
+            report.as_mut_ptr(),
+        )
     };
     tally(report)
 }
 
-pub fn decode(input: &Input, piece: usize, every: usize, payload: &mut [u8]) -> Tally {
-    decode_by(bench_decode, input, piece, every, payload)
-}
-
-/// The same by the private core.
-#[cfg(feature = "core")]
-pub fn decode_core(input: &Input, piece: usize, every: usize, payload: &mut [u8]) -> Tally {
-    decode_by(core_decode, input, piece, every, payload)
+/// By the calls that take a decoder by value and hand it back.
+pub fn decode_by_value(input: &Input, piece: usize, every: usize, payload: &mut [u8]) -> Tally {
+    let (wire, mut report) = (&input.wire, [0u64; 4]);
+    // As above.
+    unsafe {
+        bench_decode_by_value(
+            ROOM,
+            input.size,
+            wire.as_ptr(),
+            wire.len(),
+            piece,
+            every,
+            payload.as_mut_ptr(),
+            payload.len(),
+            report.as_mut_ptr(),
+        )
+    };
+    tally(report)
 }
 
 pub fn encode(input: &Input, every: usize, output: &mut [u8]) -> Tally {

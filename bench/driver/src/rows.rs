@@ -1,7 +1,8 @@
-//! The rows of the table: what is measured, and how much of the original's speed is wanted.
+//! The rows of the tables: what is measured, and what is wanted of it.
 
 use crate::clock::{best, Effort, Work};
-use crate::input::{Headers, Input, ROOM};
+use crate::input::{Input, ROOM};
+use crate::ours::Lent;
 use crate::tally::Tally;
 use crate::{original, ours};
 use std::hint::black_box;
@@ -17,6 +18,13 @@ pub enum Job {
 }
 
 pub const WHOLE: usize = usize::MAX;
+
+pub fn pieces(piece: usize) -> String {
+    if piece == WHOLE {
+        return "whole".to_string();
+    }
+    piece.to_string()
+}
 
 #[derive(Clone, Copy)]
 pub struct Row {
@@ -49,22 +57,34 @@ pub fn all() -> Vec<Row> {
     rows
 }
 
+/// At least so many times the speed of the original, or of a plain copy.
+#[derive(Clone, Copy)]
+pub enum Wanted {
+    OfOriginal(f64),
+    OfCopy(f64),
+}
+
 impl Row {
-    /// At least so many times the original's speed.
-    pub fn wanted(&self) -> f64 {
+    /// Where long payloads in long chunks are moved at once, a plain copy is the measure.
+    pub fn wanted(&self) -> Wanted {
+        let is_copy = self.width == 60000 && self.size >= 4096;
         match self.job {
-            Job::Encode => 3.0,
-            Job::Decode(_) if self.size == 128 && self.width >= 1000 => 3.0,
-            Job::Decode(_) => 1.2,
+            Job::Encode if is_copy => Wanted::OfCopy(0.95),
+            Job::Encode => Wanted::OfOriginal(3.0),
+            Job::Decode(1) => Wanted::OfOriginal(1.2),
+            Job::Decode(WHOLE) if is_copy => Wanted::OfCopy(0.5),
+            Job::Decode(_) if self.width == 16 || self.size == 128 => Wanted::OfOriginal(3.0),
+            Job::Decode(_) => Wanted::OfOriginal(1.2),
         }
     }
 
-    /// At least so much of the plain copy's speed. A call for each byte is not held to it.
-    pub fn wanted_of_copy(&self) -> f64 {
-        match self.job {
-            Job::Decode(piece) if piece > 1 && self.size >= 4096 && self.width == 60000 => 0.5,
-            _ => 0.0,
-        }
+    /// The row by what is measured, as the stored ratios name it.
+    pub fn name(&self) -> String {
+        let job = match self.job {
+            Job::Encode => "encode".to_string(),
+            Job::Decode(piece) => format!("decode {}", pieces(piece)),
+        };
+        format!("{job}, chunk size {}, payload {}, streams {}", self.size, self.width, self.streams)
     }
 
     /// Enough messages that making a decoder or an encoder does not count.
@@ -74,8 +94,7 @@ impl Row {
     }
 
     pub fn measure(&self, effort: Effort) -> Result<Times, String> {
-        let input =
-            Input::new(self.size, self.width, self.streams, self.messages(), Headers::Mixed);
+        let input = Input::new(self.size, self.width, self.streams, self.messages());
         let times = match self.job {
             Job::Encode => encode(&input, effort)?,
             Job::Decode(piece) => decode(&input, piece, effort)?,
@@ -119,15 +138,15 @@ fn encode(input: &Input, effort: Effort) -> Result<Vec<f64>, String> {
 }
 
 fn decode(input: &Input, piece: usize, effort: Effort) -> Result<Vec<f64>, String> {
-    let mut payload = vec![0; ROOM as usize];
+    let (mut lent, mut payload) = (Lent::new(), vec![0; ROOM as usize]);
     for every in [1, FEW] {
         let theirs = original::decode(input, piece, every);
-        agree("decode", ours::decode(input, piece, every, &mut payload), theirs)?;
+        agree("decode", ours::decode(&mut lent, input, piece, every, &mut payload), theirs)?;
     }
     let mut copied = vec![0; input.width];
     let mut works: [Work; 3] = [
         Box::new(|| {
-            black_box(ours::decode(input, piece, FEW, &mut payload));
+            black_box(ours::decode(&mut lent, input, piece, FEW, &mut payload));
         }),
         Box::new(|| {
             black_box(original::decode(input, piece, FEW));
@@ -145,25 +164,37 @@ fn copy(input: &Input, to: &mut [u8]) {
     }
 }
 
-/// Small messages by header type: our public calls, our private core, and the original, in nanoseconds a message.
-#[cfg(feature = "core")]
-pub fn measure_core(of_type: u8, piece: usize, effort: Effort) -> Result<Vec<f64>, String> {
-    let count = 4000;
-    let input = Input::new(128, 16, 1, count, Headers::OfType(of_type));
-    let (mut payload, mut lent) = (vec![0; ROOM as usize], vec![0; ROOM as usize]);
+/// The rows for which the decoder in place and the calls by value stand side by side.
+pub fn both_forms() -> Vec<Row> {
+    let mut rows = Vec::new();
+    for piece in [1, 1460, WHOLE] {
+        for width in [16, 1000, 60000] {
+            rows.push(Row { job: Job::Decode(piece), size: 4096, width, streams: 1 });
+        }
+    }
+    rows
+}
+
+/// In place, by value and by the original, in nanoseconds a message.
+pub fn measure_both(row: &Row, effort: Effort) -> Result<Vec<f64>, String> {
+    let Job::Decode(piece) = row.job else { return Err("both forms are a decoder's".to_string()) };
+    let input = Input::new(row.size, row.width, row.streams, row.messages());
+    let (mut lent, mut payload) = (Lent::new(), vec![0; ROOM as usize]);
+    let mut other = payload.clone();
     let theirs = original::decode(&input, piece, 1);
-    agree("decode", ours::decode(&input, piece, 1, &mut payload), theirs)?;
-    agree("decode, core", ours::decode_core(&input, piece, 1, &mut lent), theirs)?;
+    agree("decode", ours::decode(&mut lent, &input, piece, 1, &mut payload), theirs)?;
+    agree("decode by value", ours::decode_by_value(&input, piece, 1, &mut other), theirs)?;
     let mut works: [Work; 3] = [
         Box::new(|| {
-            black_box(ours::decode(&input, piece, FEW, &mut payload));
+            black_box(ours::decode(&mut lent, &input, piece, FEW, &mut payload));
         }),
         Box::new(|| {
-            black_box(ours::decode_core(&input, piece, FEW, &mut lent));
+            black_box(ours::decode_by_value(&input, piece, FEW, &mut other));
         }),
         Box::new(|| {
             black_box(original::decode(&input, piece, FEW));
         }),
     ];
-    Ok(best(effort, &mut works).iter().map(|time| time / count as f64).collect())
+    let count = input.kinds.len() as f64;
+    Ok(best(effort, &mut works).iter().map(|time| time / count).collect())
 }

@@ -1,35 +1,25 @@
-//! The printed lines, a table of Markdown.
+//! The printed lines, tables of Markdown.
 
-use crate::rows::{Job, Row, Times, WHOLE};
+use crate::rows::{pieces, Job, Row, Times, Wanted};
 
 pub const HEAD: &str = "\
 | job | pieces | chunk size | payload | streams | ours MB/s | original MB/s | copy MB/s | ours ns a message | ours/original | ours/copy | wanted |
 |---|---|---|---|---|---|---|---|---|---|---|---|";
 
-#[cfg(feature = "core")]
-pub const CORE_HEAD: &str = "\
-| header type | pieces | public calls | private core | original |
+pub const BOTH_HEAD: &str = "\
+| pieces | payload | in place | by value | original |
 |---|---|---|---|---|";
-
-pub fn pieces(piece: usize) -> String {
-    if piece == WHOLE {
-        return "whole".to_string();
-    }
-    piece.to_string()
-}
 
 /// What is wanted, and whether it is met.
 fn verdict(row: &Row, times: &Times) -> (String, bool) {
-    let met = times.original / times.ours >= row.wanted();
-    let met_copy = times.copy / times.ours >= row.wanted_of_copy();
-    let mut text = format!("{}", row.wanted());
-    if row.wanted_of_copy() > 0.0 {
-        text += &format!(", {} of copy", row.wanted_of_copy());
-    }
-    if !(met && met_copy) {
+    let (mut text, met) = match row.wanted() {
+        Wanted::OfOriginal(least) => (format!("{least}"), times.original / times.ours >= least),
+        Wanted::OfCopy(least) => (format!("{least} of copy"), times.copy / times.ours >= least),
+    };
+    if !met {
         text += ": short";
     }
-    (text, met && met_copy)
+    (text, met)
 }
 
 /// A row, and whether it has what is wanted.
@@ -53,4 +43,11 @@ pub fn line(row: &Row, times: &Times) -> (String, bool) {
         times.copy / times.ours,
     );
     (text, met)
+}
+
+/// Nanoseconds a message, in place, by value and by the original.
+pub fn both_line(row: &Row, times: &[f64]) -> String {
+    let Job::Decode(piece) = row.job else { return String::new() };
+    let (piece, width) = (pieces(piece), row.width);
+    format!("| {piece} | {width} | {:.1} | {:.1} | {:.1} |", times[0], times[1], times[2])
 }

@@ -2,7 +2,7 @@
 use crate::tally::Tally;
 use crate::tally::mix;
 use crate::tally::probe;
-use deserializer::Answer;
+use in_place::Answer;
 use test_calls::used_of;
 use test_parts::part;
 
@@ -17,12 +17,12 @@ pub fn counted(tally: Tally, answer: Answer, payload: &[u8], every: usize) -> Ta
             length,
             used: _,
         } => {
-            let of_whom = mix(mix(called.sum, type_id as u32), stream_id);
+            let of_whom = mix(mix(called.sum, type_id), stream_id);
             let of_what = mix(mix(of_whom, timestamp.value), length);
             let bytes = part(payload, 0, length as usize);
             called.message(probe(of_what, bytes, every))
         }
         Answer::More { used: _ } => called,
-        Answer::Refused { number, used: _ } => called.message(mix(called.sum, number as u32)),
+        Answer::Refused { number, used: _ } => called.message(mix(called.sum, number)),
     }
 }

@@ -1,16 +1,19 @@
-// A run of a decoder over a whole input, piece by piece; what a call left unread is offered again.
+// A run of a decoder, in what is lent, over a whole input, piece by piece; what a call left unread is offered again.
 use crate::answers::counted;
 use crate::parts::after;
 use crate::parts::piece_end;
 use crate::tally::Tally;
 use crate::tally::tell;
-use test_calls::decoder;
+use in_place::next_message;
+use test_calls::make_sized;
 use test_calls::used_of;
 use test_parts::part;
 
 // Decodes all of `input`, and tells messages, calls, bytes taken and the checksum.
 #[no_mangle]
 pub extern "C" fn bench_decode(
+    held: &mut [u32; 24],
+    rows: &mut [u32; 384],
     room: u32,
     size: u32,
     input: &[u8],
@@ -19,16 +22,13 @@ pub extern "C" fn bench_decode(
     payload: &mut [u8],
     report: &mut [u64; 4],
 ) {
-    let mut state = decoder(room, size);
+    make_sized(held, rows, room, size);
     let mut tally = Tally::new();
     let mut end = 0;
     let mut at = 0;
     while at < input.len() {
         end = piece_end(end, at, piece, input.len());
-        let decoded = state.get_next_message(part(input, at, end), payload);
-        let next = decoded.deserializer;
-        let answer = decoded.answer;
-        state = next;
+        let answer = next_message(held, rows, part(input, at, end), payload);
         tally = counted(tally, answer, payload, every);
         at = after(at, used_of(answer), input.len());
     }

@@ -3,18 +3,10 @@ use crate::parts::after;
 use crate::tally::Tally;
 use crate::tally::probe;
 use crate::tally::tell;
-use serializer::ChunkSerializer;
 use test_calls::count_of;
 use test_calls::encoder;
 use test_parts::part;
 use time::RtmpTimestamp;
-
-// An encoder, and how many messages it has sent.
-struct Run {
-    encoder: ChunkSerializer,
-    tally: Tally,
-    count: usize,
-}
 
 // Counts a packet, the first `n` bytes of the output.
 fn counted(tally: Tally, n: usize, output: &[u8], every: usize) -> Tally {
@@ -37,36 +29,6 @@ fn time_at(times: &[u32], i: usize) -> RtmpTimestamp {
     RtmpTimestamp::new(times[i])
 }
 
-// Sends the next message.
-fn turn(
-    run: Run,
-    kinds: &[u8],
-    times: &[u32],
-    payload: &[u8],
-    every: usize,
-    output: &mut [u8],
-) -> Run {
-    let encoder = run.encoder;
-    let tally = run.tally;
-    let i = run.count;
-    let sent = encoder.serialize(
-        kind_at(kinds, i),
-        1,
-        time_at(times, i),
-        payload,
-        false,
-        false,
-        output,
-    );
-    let next = sent.serializer;
-    let packet = sent.packet;
-    Run {
-        encoder: next,
-        tally: counted(tally, count_of(packet), output, every),
-        count: std::num::wrapping_add_usize(i, 1),
-    }
-}
-
 // Encodes `width` bytes of the source after the other as a message each, with the kinds and times given, and tells messages, calls, bytes written and the checksum.
 #[no_mangle]
 pub extern "C" fn bench_encode(
@@ -79,17 +41,22 @@ pub extern "C" fn bench_encode(
     output: &mut [u8],
     report: &mut [u64; 4],
 ) {
-    let mut run = Run {
-        encoder: encoder(size),
-        tally: Tally::new(),
-        count: 0,
-    };
+    let mut state = encoder(size);
+    let mut tally = Tally::new();
+    let mut count = 0;
     let mut from = 0;
     while from < source.len() {
         let end = after(from, width, source.len());
-        run = turn(run, kinds, times, part(source, from, end), every, output);
+        let kind = kind_at(kinds, count);
+        let time = time_at(times, count);
+        let payload = part(source, from, end);
+        let sent = state.serialize(kind, 1, time, payload, false, false, output);
+        let next = sent.serializer;
+        let packet = sent.packet;
+        state = next;
+        tally = counted(tally, count_of(packet), output, every);
+        count = std::num::wrapping_add_usize(count, 1);
         from = end;
     }
-    let tally = run.tally;
     tell(tally, report);
 }

@@ -1,11 +1,13 @@
 // A capture's way through the decoder, answer by answer.
 use crate::hash::print_hash;
 use crate::sha256::sha256;
-use deserializer::Answer;
-use deserializer::ChunkDeserializer;
 use fields::number_at;
+use in_place::Answer;
+use in_place::make;
+use in_place::set_max_chunk_size;
 use test_calls::Cut;
 use test_calls::Walk;
+use test_calls::may_tell;
 use test_calls::next_answer;
 use test_parts::part;
 use test_parts::print;
@@ -17,15 +19,8 @@ const ROOM: u32 = 65536;
 // No capture has more answers.
 const TURNS: usize = 100000;
 
-// Before the first piece.
-fn start(cut: Cut) -> Walk {
-    let made = ChunkDeserializer::new(ROOM);
-    let decoder = made.deserializer;
-    Walk::new(decoder, cut)
-}
-
 // Writes a message as the listings have it.
-fn print_message(type_id: u8, stream_id: u32, time: u32, payload: &[u8]) {
+fn print_message(type_id: u32, stream_id: u32, time: u32, payload: &[u8]) {
     print_numbered(b"", type_id as u64);
     print_numbered(b" ", stream_id as u64);
     print_numbered(b" ", time as u64);
@@ -36,7 +31,7 @@ fn print_message(type_id: u8, stream_id: u32, time: u32, payload: &[u8]) {
 }
 
 // A four-byte message of type 1 with a value from 1 to 2147483647 sets the size.
-fn take_message(so_far: Walk, type_id: u8, payload: &[u8]) -> Walk {
+fn take_message(so_far: Walk, held: &mut [u32; 24], type_id: u32, payload: &[u8]) -> Walk {
     if type_id != 1 || payload.len() != 4 {
         return so_far;
     }
@@ -44,11 +39,11 @@ fn take_message(so_far: Walk, type_id: u8, payload: &[u8]) -> Walk {
     if size < 1 || 2147483647 < size {
         return so_far;
     }
-    so_far.tell(size)
+    so_far.told(set_max_chunk_size(held, size))
 }
 
 // Takes an answer.
-fn take_answer(so_far: Walk, answer: Answer, payload: &[u8]) -> Walk {
+fn take_answer(so_far: Walk, held: &mut [u32; 24], answer: Answer, payload: &[u8]) -> Walk {
     match answer {
         Answer::Message {
             type_id,
@@ -59,7 +54,7 @@ fn take_answer(so_far: Walk, answer: Answer, payload: &[u8]) -> Walk {
         } => {
             let message = part(payload, 0, length as usize);
             print_message(type_id, stream_id, timestamp.value, message);
-            take_message(so_far, type_id, message)
+            take_message(so_far, held, type_id, message)
         }
         Answer::More { used: _ } => so_far,
         Answer::Refused { number, used: _ } => {
@@ -70,19 +65,31 @@ fn take_answer(so_far: Walk, answer: Answer, payload: &[u8]) -> Walk {
 }
 
 // Goes on to the next answer, and takes it.
-fn turn(so_far: Walk, capture: &[u8], payload: &mut [u8]) -> Walk {
-    let walked = next_answer(so_far, capture, payload);
+fn turn(
+    so_far: Walk,
+    held: &mut [u32; 24],
+    rows: &mut [u32; 384],
+    capture: &[u8],
+    payload: &mut [u8],
+) -> Walk {
+    let walked = next_answer(so_far, held, rows, capture, payload);
     let walk = walked.walk;
     let answer = walked.answer;
-    take_answer(walk, answer, payload)
+    take_answer(walk, held, answer, payload)
 }
 
 // Offers all of the capture.
-fn walk_all(capture: &[u8], cut: Cut, payload: &mut [u8]) -> Walk {
-    let mut so_far = start(cut);
+fn walk_all(
+    start: Walk,
+    held: &mut [u32; 24],
+    rows: &mut [u32; 384],
+    capture: &[u8],
+    payload: &mut [u8],
+) -> Walk {
+    let mut so_far = start;
     let mut turns = TURNS;
     while 0 < turns {
-        so_far = turn(so_far, capture, payload);
+        so_far = turn(so_far, held, rows, capture, payload);
         if so_far.is_over(capture.len()) {
             return so_far;
         }
@@ -104,6 +111,9 @@ fn print_end(used: usize, length: usize, may_tell: bool) {
 
 // Offers all of the capture, and writes each message and where it ended.
 pub fn walk_through(capture: &[u8], cut: Cut, payload: &mut [u8]) {
-    let end = walk_all(capture, cut, payload);
-    print_end(end.used, capture.len(), end.may_tell());
+    let mut held = [0u32; 24];
+    let mut rows = [0u32; 384];
+    make(&mut held, &mut rows, ROOM);
+    let end = walk_all(Walk::new(cut), &mut held, &mut rows, capture, payload);
+    print_end(end.used, capture.len(), may_tell(&mut held));
 }

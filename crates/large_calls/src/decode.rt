@@ -1,9 +1,9 @@
 // One message by a decoder, its bytes in pieces.
-use deserializer::Answer;
+use in_place::Answer;
 use test_calls::Cut;
 use test_calls::Walk;
 use test_calls::Walked;
-use test_calls::decoder;
+use test_calls::make_sized;
 use test_calls::next_answer;
 
 fn wide(number: u32) -> u64 {
@@ -21,9 +21,9 @@ fn clear(report: &mut [u64; 8]) {
 }
 
 // Tells a message.
-fn tell_message(type_id: u8, stream_id: u32, time: u32, length: u32, report: &mut [u64; 8]) {
+fn tell_message(type_id: u32, stream_id: u32, time: u32, length: u32, report: &mut [u64; 8]) {
     report[0] = 1;
-    report[2] = type_id as u64;
+    report[2] = wide(type_id);
     report[3] = wide(stream_id);
     report[4] = wide(time);
     report[5] = wide(length);
@@ -47,7 +47,7 @@ fn tell(walked: Walked, report: &mut [u64; 8]) {
         Answer::More { used: _ } => {}
         Answer::Refused { number, used: _ } => {
             report[0] = 2;
-            report[1] = number as u64;
+            report[1] = wide(number);
         }
     }
 }
@@ -62,6 +62,10 @@ pub extern "C" fn large_decode(
     payload: &mut [u8],
     report: &mut [u64; 8],
 ) {
-    let start = Walk::new(decoder(room, size), Cut::even(piece));
-    tell(next_answer(start, input, payload), report);
+    let mut held = [0u32; 24];
+    let mut rows = [0u32; 384];
+    make_sized(&mut held, &mut rows, room, size);
+    let start = Walk::new(Cut::even(piece));
+    let walked = next_answer(start, &mut held, &mut rows, input, payload);
+    tell(walked, report);
 }

@@ -1,8 +1,8 @@
 -- The chunks of a payload, taken one by one; the first may have a format of its own.
-use Prim.Native.Nat.{ℕ, _+_, _-_, _<_, min}
+use Prim.Native.Nat.{ℕ, _+_, _-_, _≤_, _<_, min}
 use mathlib.Core.Path.{_≡_, refl, sym, ap, _∙_}
 use mathlib.Core.Bool.{Bool, true, false}
-use mathlib.Core.List.{List, [], _∷_, _++_, map}
+use mathlib.Core.List.{List, [], _∷_, _++_, map, append-nil}
 use native.Mathlib.Nat.{add-sub-cancel-left}
 use native.Mathlib.Omega.{arith}
 use lib.Dec.{ltb}
@@ -61,3 +61,10 @@ chunked-piece f g h size payload from n p q e =
     let piece : take n xs ≡ take size xs = ap (λ (m : ℕ). take m xs) k ∙ cut-least size xs .0 in
     let rest : drop (from + n) payload ≡ drop size xs = sym (drop-drop n from payload) ∙ ap (λ (m : ℕ). drop m xs) k ∙ cut-least size xs .1 in
     chunked-step f g h size xs p some ∙ rw (add-sub-cancel-left from n, piece, rest)
+
+-- a payload that fits one chunk
+pub chunked-one : (f g : ChunkHeaderFormat) (h : ChunkHeader) (size : ℕ) (payload : List ℕ) → 0 < size → 0 < length payload → length payload ≤ size
+    → chunked f g h size payload ≡ chunkBytes (chunk f h payload)
+chunked-one f g h size payload p q fits =
+    chunked-step f g h size payload p q
+    ∙ rw (take-all size payload fits, drop-of-length-le payload {i = size} fits, chunked-none g g h size p) (append-nil (chunkBytes (chunk f h payload)))

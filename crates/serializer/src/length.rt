@@ -29,7 +29,7 @@ fn chunk_length(format: ChunkHeaderFormat, header: ChunkHeader) -> usize
 }
 
 // What the chunks of a payload take.
-pub fn packet_bytes(
+fn chunks_length(
     first: ChunkHeaderFormat,
     later: ChunkHeaderFormat,
     header: ChunkHeader,
@@ -41,4 +41,21 @@ pub fn packet_bytes(
 {
     let more = (payload.len() - 1) / size;
     chunk_length(first, header) + more * chunk_length(later, header) + payload.len()
+}
+
+// The same; most payloads are one chunk.
+pub fn packet_bytes(
+    first: ChunkHeaderFormat,
+    later: ChunkHeaderFormat,
+    header: ChunkHeader,
+    payload: &[u8],
+    size: usize,
+) -> usize
+    requires { ⌜ (0 < length (now payload)) × (length (now payload) ≤ maxLength) × (0 < size) ⌝ }
+    ensures { λ r. ⌜ r ≡ length (chunked first later header size (now (payload .entry))) ⌝ }
+{
+    if size < payload.len() {
+        return chunks_length(first, later, header, payload, size);
+    }
+    chunk_length(first, header) + payload.len()
 }

@@ -31,6 +31,8 @@ const MAX_MESSAGE_LENGTH: usize = 16777215;
 pub struct ChunkSerializer {
     previous_headers: [ChunkHeader; 5],
     max_chunk_size: u32,
+    // 0, for nothing but the length: an encoder is copied with each call, in eight steps of 16 bytes
+    unused: u32,
 }
 
 // What became of a message.
@@ -90,9 +92,8 @@ fn refuse(serializer: ChunkSerializer, packet: Packet) -> Serialized
 fn plan_for(serializer: ChunkSerializer, message: Message) -> Plan
     ensures { λ r. ⌜ r ≡ planned message (previous serializer message) (serializer .«max_chunk_size») ⌝ }
 {
-    let headers = serializer.previous_headers;
     let row = row_of(message.type_id);
-    let previous = headers[row];
+    let previous = serializer.previous_headers[row];
     plan_packet(message, previous, serializer.max_chunk_size)
 }
 
@@ -107,10 +108,7 @@ fn send(
     requires { ⌜ (0 < length (now payload)) × (length (now payload) ≤ maxLength) ⌝ }
     ensures { λ r. ⌜ outcomeOf r (now (output .exit)) ≡ sent serializer message (now (payload .entry)) «size_after» (now (output .entry)) ⌝ }
 {
-    let row = row_of(message.type_id);
-    let mut headers = serializer.previous_headers;
-    let previous = headers[row];
-    let plan = plan_packet(message, previous, serializer.max_chunk_size);
+    let plan = plan_for(serializer, message);
     let needed = bytes_needed(plan, payload);
     if output.len() < needed {
         return Serialized {
@@ -121,14 +119,14 @@ fn send(
     let first = plan.first;
     let later = plan.later;
     let header = first.header;
-    // Before the bytes are written: a copy of the rows straight after this store would wait for it.
-    headers[row] = header;
+    // Before the bytes are written: a copy of the encoder straight after these stores would wait for them.
+    let row = row_of(message.type_id);
+    let mut next = serializer;
+    next.previous_headers[row] = header;
+    next.max_chunk_size = size_after;
     write_packet(first, later, payload, plan.size, output);
     Serialized {
-        serializer: ChunkSerializer {
-            previous_headers: headers,
-            max_chunk_size: size_after,
-        },
+        serializer: next,
         packet: Packet::Written(needed),
     }
 }
@@ -141,6 +139,7 @@ impl ChunkSerializer {
         ChunkSerializer {
             previous_headers: [nothing; 5],
             max_chunk_size: INITIAL_MAX_CHUNK_SIZE,
+            unused: 0,
         }
     }
 

@@ -130,8 +130,8 @@ fn add_chunk(
     next + payload.len()
 }
 
-// Writes the packet of a message at the start of the output: its first chunk has a format of its own.
-pub fn write_packet(
+// Writes the chunks of a payload at the start of the output: the first one has a format of its own.
+fn write_chunks(
     first: FirstChunk,
     later: ChunkHeaderFormat,
     payload: &[u8],
@@ -151,4 +151,25 @@ pub fn write_packet(
         format = later;
         from += n;
     }
+}
+
+// Writes the packet of a message at the start of the output. Most messages are one chunk.
+pub fn write_packet(
+    first: FirstChunk,
+    later: ChunkHeaderFormat,
+    payload: &[u8],
+    size: usize,
+    output: &mut [u8],
+)
+    requires { ⌜ (first .header .«chunk_stream_id» < 64) × (0 < size) × (0 < length (now payload)) × (length (chunked (first .format) later (first .header) size (now payload)) ≤ length (now output)) ⌝ }
+    ensures { λ _. ⌜ now (output .exit) ≡ over (chunked (first .format) later (first .header) size (now (payload .entry))) (now (output .entry)) ⌝ }
+{
+    if size < payload.len() {
+        write_chunks(first, later, payload, size, output);
+        return;
+    }
+    let header = first.header;
+    let format = first.format;
+    let at = add_header(output, 0, format, header);
+    put_bytes(payload, output, at);
 }

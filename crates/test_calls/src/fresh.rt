@@ -1,5 +1,6 @@
 // Encoders and decoders of which nothing is known but a chunk size.
-use deserializer::ChunkDeserializer;
+use in_place::make;
+use in_place::set_max_chunk_size;
 use serializer::ChunkSerializer;
 use time::RtmpTimestamp;
 
@@ -11,10 +12,8 @@ pub fn encoder(size: u32) -> ChunkSerializer {
     told.serializer
 }
 
-// A decoder for messages of at most `room` bytes in chunks of `size`.
-pub fn decoder(room: u32, size: u32) -> ChunkDeserializer {
-    let made = ChunkDeserializer::new(room);
-    let fresh = made.deserializer;
-    let told = fresh.set_max_chunk_size(size);
-    told.deserializer
+// Makes a decoder, in what is lent, for messages of at most `room` bytes in chunks of `size`.
+pub fn make_sized(held: &mut [u32; 24], rows: &mut [u32; 384], room: u32, size: u32) {
+    make(held, rows, room);
+    set_max_chunk_size(held, size);
 }

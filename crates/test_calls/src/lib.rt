@@ -6,12 +6,13 @@ mod pieces;
 mod used;
 mod walking;
 
-pub use crate::fresh::decoder;
 pub use crate::fresh::encoder;
+pub use crate::fresh::make_sized;
 pub use crate::packets::count_of;
 pub use crate::packets::refusal_of;
 pub use crate::pieces::Cut;
 pub use crate::used::used_of;
 pub use crate::walking::Walk;
 pub use crate::walking::Walked;
+pub use crate::walking::may_tell;
 pub use crate::walking::next_answer;

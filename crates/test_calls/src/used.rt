@@ -1,5 +1,5 @@
 // How far a call of the decoder went.
-use deserializer::Answer;
+use in_place::Answer;
 
 // How many bytes the call used.
 pub fn used_of(answer: Answer) -> usize {

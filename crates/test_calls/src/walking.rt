@@ -1,14 +1,16 @@
-// A decoder's way through an input, piece by piece: what a call left unread is offered again.
+// The way of a decoder, in the numbers and the table that are lent, through an input, piece by piece: what a call left unread is
+// offered again.
 use crate::pieces::Cut;
 use crate::used::used_of;
-use deserializer::Answer;
-use deserializer::ChunkDeserializer;
-use deserializer::Telling;
+use in_place::Answer;
+use in_place::Telling;
+use in_place::get_max_chunk_size;
+use in_place::next_message;
+use in_place::set_max_chunk_size;
 use test_parts::part;
 
 // How far it is.
 pub struct Walk {
-    decoder: ChunkDeserializer,
     cut: Cut,
     // how many bytes are used, and where the piece ends that they are in
     pub used: usize,
@@ -27,9 +29,8 @@ pub struct Walked {
 
 impl Walk {
     // Before the first piece.
-    pub fn new(decoder: ChunkDeserializer, cut: Cut) -> Self {
+    pub fn new(cut: Cut) -> Self {
         Walk {
-            decoder,
             cut,
             used: 0,
             end: 0,
@@ -84,34 +85,22 @@ impl Walk {
         true
     }
 
-    // What the decoder would answer to a chunk size.
-    pub fn telling(self, size: u32) -> Telling {
-        let decoder = self.decoder;
-        let told = decoder.set_max_chunk_size(size);
-        told.telling
-    }
-
-    // Whether a size may be told: not inside a message.
-    pub fn may_tell(self) -> bool {
-        let decoder = self.decoder;
-        let telling = self.telling(decoder.get_max_chunk_size());
-        match telling {
-            Telling::Taken => true,
-            Telling::Refused(_) => false,
-        }
-    }
-
-    // With a chunk size told; it is wrong if that is refused.
-    pub fn tell(mut self, size: u32) -> Self {
-        let decoder = self.decoder;
-        let told = decoder.set_max_chunk_size(size);
-        let after = told.deserializer;
-        self.decoder = after;
-        let telling = told.telling;
+    // With a chunk size told; it is wrong if that was refused.
+    pub fn told(self, telling: Telling) -> Self {
         match telling {
             Telling::Taken => self,
             Telling::Refused(_) => self.bad(),
         }
+    }
+}
+
+// Whether a size may be told: not inside a message. The size in force is told once more, which changes nothing.
+pub fn may_tell(held: &mut [u32; 24]) -> bool {
+    let size = get_max_chunk_size(held);
+    let telling = set_max_chunk_size(held, size);
+    match telling {
+        Telling::Taken => true,
+        Telling::Refused(_) => false,
     }
 }
 
@@ -128,13 +117,15 @@ impl Walked {
 }
 
 // Offers what is unread of the piece, or the next one.
-fn offer(so_far: Walk, input: &[u8], payload: &mut [u8]) -> Walked {
-    let mut next = so_far.reach(input.len());
-    let decoder = next.decoder;
-    let decoded = decoder.get_next_message(part(input, next.used, next.end), payload);
-    let answer = decoded.answer;
-    let after = decoded.deserializer;
-    next.decoder = after;
+fn offer(
+    so_far: Walk,
+    held: &mut [u32; 24],
+    rows: &mut [u32; 384],
+    input: &[u8],
+    payload: &mut [u8],
+) -> Walked {
+    let next = so_far.reach(input.len());
+    let answer = next_message(held, rows, part(input, next.used, next.end), payload);
     Walked {
         walk: next.forward(used_of(answer)),
         answer,
@@ -143,15 +134,21 @@ fn offer(so_far: Walk, input: &[u8], payload: &mut [u8]) -> Walked {
 
 // Offers pieces up to the first message or refusal, or to the end of the input. A call that is offered a byte uses one, so there
 // are no more calls than bytes; where there would be, something is wrong, and bytes are left.
-pub fn next_answer(so_far: Walk, input: &[u8], payload: &mut [u8]) -> Walked {
-    let mut walked = offer(so_far, input, payload);
+pub fn next_answer(
+    so_far: Walk,
+    held: &mut [u32; 24],
+    rows: &mut [u32; 384],
+    input: &[u8],
+    payload: &mut [u8],
+) -> Walked {
+    let mut walked = offer(so_far, held, rows, input, payload);
     let mut turns = input.len();
     while 0 < turns {
         if walked.is_done(input.len()) {
             return walked;
         }
         let walk = walked.walk;
-        walked = offer(walk, input, payload);
+        walked = offer(walk, held, rows, input, payload);
         turns -= 1;
     }
     walked

@@ -1,5 +1,5 @@
 // A line that breaks: for each number of bytes, what comes out where the wire stops after so many.
-use crate::decode::Decoding;
+use crate::decode::End;
 use crate::decode::decode_all;
 use test_parts::part;
 use test_parts::print;
@@ -24,14 +24,13 @@ fn print_place(length: usize, count: usize) {
 }
 
 // Looks at what came of the first `length` bytes, beside what came of one byte fewer.
-fn settle(before: Broken, length: usize, end: Decoding) -> Broken {
+fn settle(before: Broken, length: usize, end: End) -> Broken {
     if before.count != end.count {
         print_place(length, end.count);
     }
-    let walk = end.walk;
     Broken {
         count: end.count,
-        is_good: before.is_good && walk.is_good && walk.used == length,
+        is_good: before.is_good && end.is_good && end.used == length,
     }
 }
 

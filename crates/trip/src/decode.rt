@@ -1,12 +1,14 @@
 // The way in: the bytes on the wire in pieces, and each message beside the one that was kept.
 use crate::first_bytes::print_first_bytes;
 use crate::kept::is_kept_one;
-use deserializer::Answer;
-use deserializer::ChunkDeserializer;
-use deserializer::Telling;
 use fields::number_at;
+use in_place::Answer;
+use in_place::Telling;
+use in_place::make;
+use in_place::set_max_chunk_size;
 use test_calls::Cut;
 use test_calls::Walk;
+use test_calls::may_tell;
 use test_calls::next_answer;
 use test_parts::part;
 use test_parts::print;
@@ -14,12 +16,22 @@ use test_parts::print_line;
 use test_parts::print_numbered;
 
 // How far the pieces are.
-pub struct Decoding {
-    pub walk: Walk,
+struct Decoding {
+    walk: Walk,
     // how many messages were handed out
-    pub count: usize,
+    count: usize,
     // whether each answer is written
     is_told: bool,
+}
+
+// Where a way in ended.
+pub struct End {
+    pub count: usize,
+    pub used: usize,
+    // whether nothing went wrong
+    pub is_good: bool,
+    // whether it is the end of a message
+    pub may_tell: bool,
 }
 
 // What came of a way in.
@@ -39,10 +51,8 @@ const TURNS: usize = 10000;
 impl Decoding {
     // Before the first piece, of pieces of at most `piece` bytes.
     fn new(piece: usize, is_told: bool) -> Self {
-        let made = ChunkDeserializer::new(ROOM);
-        let decoder = made.deserializer;
         Decoding {
-            walk: Walk::new(decoder, Cut::even(piece)),
+            walk: Walk::new(Cut::even(piece)),
             count: 0,
             is_told,
         }
@@ -62,12 +72,12 @@ impl Decoding {
     }
 
     // With a new chunk size told.
-    fn tell(mut self, size: u32) -> Self {
+    fn told(mut self, size: u32, telling: Telling) -> Self {
         let walk = self.walk;
         if self.is_told {
-            print_telling(size, walk.telling(size));
+            print_telling(size, telling);
         }
-        self.walk = walk.tell(size);
+        self.walk = walk.told(telling);
         self
     }
 }
@@ -83,14 +93,14 @@ fn print_telling(size: u32, telling: Telling) {
 }
 
 // Writes a message's header.
-fn print_header(type_id: u8, stream_id: u32, time: u32) {
+fn print_header(type_id: u32, stream_id: u32, time: u32) {
     print_numbered(b"message ", type_id as u64);
     print_numbered(b" on stream ", stream_id as u64);
     print_numbered(b" at ", time as u64);
 }
 
 // Writes a message.
-fn print_message(type_id: u8, stream_id: u32, time: u32, payload: &[u8]) {
+fn print_message(type_id: u32, stream_id: u32, time: u32, payload: &[u8]) {
     print_header(type_id, stream_id, time);
     print_numbered(b", ", payload.len() as u64);
     print(b" bytes: ");
@@ -101,7 +111,8 @@ fn print_message(type_id: u8, stream_id: u32, time: u32, payload: &[u8]) {
 // Takes a message that was handed out. One of type 1 tells a size.
 fn take_message(
     so_far: Decoding,
-    type_id: u8,
+    held: &mut [u32; 24],
+    type_id: u32,
     stream_id: u32,
     time: u32,
     payload: &[u8],
@@ -126,7 +137,8 @@ fn take_message(
     }
     let next = so_far.with_message();
     if type_id == 1 {
-        return next.tell(number_at(payload, 0, 4));
+        let size = number_at(payload, 0, 4);
+        return next.told(size, set_max_chunk_size(held, size));
     }
     next
 }
@@ -134,6 +146,7 @@ fn take_message(
 // Takes an answer.
 fn take_answer(
     so_far: Decoding,
+    held: &mut [u32; 24],
     answer: Answer,
     payload: &[u8],
     places: &[u8],
@@ -150,6 +163,7 @@ fn take_answer(
             let message = part(payload, 0, length as usize);
             take_message(
                 so_far,
+                held,
                 type_id,
                 stream_id,
                 timestamp.value,
@@ -169,33 +183,36 @@ fn take_answer(
 // Goes on to the next answer, and takes it.
 fn turn(
     so_far: Decoding,
+    held: &mut [u32; 24],
+    rows: &mut [u32; 384],
     wire: &[u8],
     places: &[u8],
     payload: &mut [u8],
     sent: &mut [u8],
 ) -> Decoding {
     let walk = so_far.walk;
-    let walked = next_answer(walk, wire, payload);
+    let walked = next_answer(walk, held, rows, wire, payload);
     let after = walked.walk;
     let answer = walked.answer;
     let mut next = so_far;
     next.walk = after;
-    take_answer(next, answer, payload, places, sent)
+    take_answer(next, held, answer, payload, places, sent)
 }
 
-// Offers all bytes of the wire in pieces, and writes each answer where it `is_told` to.
-pub fn decode_all(
+// Offers all bytes of the wire.
+fn offer_all(
+    start: Decoding,
+    held: &mut [u32; 24],
+    rows: &mut [u32; 384],
     wire: &[u8],
     places: &[u8],
-    piece: usize,
-    is_told: bool,
     payload: &mut [u8],
     sent: &mut [u8],
 ) -> Decoding {
-    let mut so_far = Decoding::new(piece, is_told);
+    let mut so_far = start;
     let mut turns = TURNS;
     while 0 < turns {
-        so_far = turn(so_far, wire, places, payload, sent);
+        so_far = turn(so_far, held, rows, wire, places, payload, sent);
         let walk = so_far.walk;
         if walk.is_over(wire.len()) {
             return so_far;
@@ -203,6 +220,29 @@ pub fn decode_all(
         turns -= 1;
     }
     so_far
+}
+
+// Offers all bytes of the wire to a new decoder in pieces, and writes each answer where it `is_told` to.
+pub fn decode_all(
+    wire: &[u8],
+    places: &[u8],
+    piece: usize,
+    is_told: bool,
+    payload: &mut [u8],
+    sent: &mut [u8],
+) -> End {
+    let mut held = [0u32; 24];
+    let mut rows = [0u32; 384];
+    make(&mut held, &mut rows, ROOM);
+    let start = Decoding::new(piece, is_told);
+    let end = offer_all(start, &mut held, &mut rows, wire, places, payload, sent);
+    let walk = end.walk;
+    End {
+        count: end.count,
+        used: walk.used,
+        is_good: walk.is_good,
+        may_tell: may_tell(&mut held),
+    }
 }
 
 // Writes how far it came, and whether that is the end of a message.
@@ -226,12 +266,10 @@ pub fn decode(
 ) -> Arrived {
     print_line(b"pieces of ", piece as u64);
     let end = decode_all(wire, places, piece, true, payload, sent);
-    let walk = end.walk;
-    let may_tell = walk.may_tell();
-    print_used(walk.used, wire.len(), may_tell);
+    print_used(end.used, wire.len(), end.may_tell);
     Arrived {
         count: end.count,
-        used: walk.used,
-        is_good: walk.is_good && may_tell && walk.used == wire.len() && end.count == places.len(),
+        used: end.used,
+        is_good: end.is_good && end.may_tell && end.used == wire.len() && end.count == places.len(),
     }
 }

@@ -17,8 +17,8 @@ fn fill_sent(call: Call, place: usize, sent: &mut [u8]) {
 }
 
 // Whether a message's numbers are those of the call.
-fn is_header_of(call: Call, type_id: u8, stream_id: u32, time: u32) -> bool {
-    type_id == call.type_id && stream_id == call.stream_id && time == call.time
+fn is_header_of(call: Call, type_id: u32, stream_id: u32, time: u32) -> bool {
+    type_id == call.type_id as u32 && stream_id == call.stream_id && time == call.time
 }
 
 fn wide(place: u8) -> usize
@@ -30,7 +30,7 @@ fn wide(place: u8) -> usize
 // Whether a message is the next one that was kept, its payload byte for byte; `sent` is for the payload that was sent.
 pub fn is_kept_one(
     count: usize,
-    type_id: u8,
+    type_id: u32,
     stream_id: u32,
     time: u32,
     payload: &[u8],

@@ -7,7 +7,7 @@ use Rattle.serializer.proofs.plan_for.Statement.{statement}
 use Rattle.serializer.proofs.plan_for.Tie as tie
 
 row : (c : tie.After-row-of) → c .row-of .result < 5
-row c = omega (arith, c .row-of .ensures, stream-range (c .before .before .args .message .«type_id»))
+row c = omega (arith, c .row-of .ensures, stream-range (c .before .args .message .«type_id»))
 
 row-of-requires : tie.Need-row-of-requires
 row-of-requires c κs = search needs
@@ -15,8 +15,8 @@ row-of-requires c κs = search needs
 mul-previous : tie.Need-mul-previous
 mul-previous c = omega (arith, row c)
 
-array-copy-out-previous : tie.Need-array-copy-out-previous
-array-copy-out-previous c = row c
+element-copy-out-previous : tie.Need-element-copy-out-previous
+element-copy-out-previous c = row c
 
 plan-packet-requires : tie.Need-plan-packet-requires
 plan-packet-requires c κs = search needs
@@ -27,4 +27,4 @@ returns c = rw (c .plan-packet .ensures, c .before .before .row-of .ensures)
 pub plan-for-spec : {M : Type 1} → statement M
 plan-for-spec =
     tie.close
-    (tie.spec row-of-requires mul-previous array-copy-out-previous plan-packet-requires returns)
+    (tie.spec row-of-requires mul-previous element-copy-out-previous plan-packet-requires returns)

@@ -7,7 +7,7 @@ use lib.ListN.{length}
 use Rattle.fields.specs.Output.{over}
 use Rattle.serializer.specs.declared.plan.Plan.{Plan}
 use Rattle.serializer.specs.Packet.{chunked, packet}
-use Rattle.serializer.specs.Remembered.{packetOf, planned, previous}
+use Rattle.serializer.specs.Remembered.{packetOf}
 use Rattle.serializer.specs.Serialize.{sent}
 use Rattle.serializer.proofs.Stream.{stream-range}
 use borrow.Author.Needs.{needs}
@@ -15,49 +15,36 @@ use borrow.Author.Tests.{lt-ltb, le-ltb}
 use Rattle.serializer.proofs.send.Statement.{statement}
 use Rattle.serializer.proofs.send.Tie as tie
 
--- the row is one of the five
-row : (c : tie.After-row-of) → c .row-of .result < 5
-row c = omega (arith, c .row-of .ensures, stream-range (c .before .before .before .args .message .«type_id»))
+abbrev start : tie.After-plan-for → tie.Start
+start c = c .before .before .before
 
-abbrev start : tie.After-plan-packet → tie.Start
-start c = c .before .before .before .before .before .before
+size : (c : tie.After-plan-for) → c .plan-for .result .size ≡ max 1 (start c .args .serializer .«max_chunk_size»)
+size c = ap (λ (p : Plan). p .size) (c .plan-for .ensures)
 
--- the plan is that of the message after what is remembered of its stream
-plan : (c : tie.After-plan-packet) → let a = c .before .before .before .before .before .before .args in c .plan-packet .result ≡ planned (a .message) (previous (a .serializer) (a .message)) (a .serializer .«max_chunk_size»)
-plan c = rw (c .plan-packet .ensures, c .before .before .before .row-of .ensures)
-
-size : (c : tie.After-plan-packet) → c .plan-packet .result .size ≡ max 1 (start c .args .serializer .«max_chunk_size»)
-size c = ap (λ (p : Plan). p .size) (plan c)
-
--- and its bytes are the definition's packet
+-- the planned bytes are the definition's packet
 abbrev bytes : Plan → List ℕ → List ℕ
 bytes p payload = chunked (p .first .format) (p .later) (p .first .header) (p .size) payload
 
-packet-of : (c : tie.After-plan-packet) → let a = start c .args in bytes (c .plan-packet .result) (a .payload .now) ≡ packetOf (a .serializer) (a .message) (a .payload .now)
+packet-of : (c : tie.After-plan-for) → let a = start c .args in bytes (c .plan-for .result) (a .payload .now) ≡ packetOf (a .serializer) (a .message) (a .payload .now)
 unfolding packet
-packet-of c = ap (λ (p : Plan). bytes p (start c .args .payload .now)) (plan c)
+packet-of c = ap (λ (p : Plan). bytes p (start c .args .payload .now)) (c .plan-for .ensures)
 
 -- which was measured ..
 needed : (c : tie.After-bytes-needed) → let a = start (c .before) .args in c .bytes-needed .result ≡ length (packetOf (a .serializer) (a .message) (a .payload .now))
 needed c = c .bytes-needed .ensures ∙ ap length (packet-of (c .before))
 
 -- .. and written
-written : (c : tie.After-write-packet) → let a = start (c .before .before .before .before .before .before) .args in c .write-packet .last .1 .1 .1 .1 .0 ≡ over (packetOf (a .serializer) (a .message) (a .payload .now)) (a .output .now)
+written : (c : tie.After-write-packet) → let a = start (c .before .before .before .before .before .before .before) .args in c .write-packet .last .1 .1 .1 .1 .0 ≡ over (packetOf (a .serializer) (a .message) (a .payload .now)) (a .output .now)
 written c =
-    let p = c .before .before .before .before .before .before in
+    let p = c .before .before .before .before .before .before .before in
     c .write-packet .ensures ∙ ap (λ (l : List ℕ). over l (start p .args .output .now)) (packet-of p)
 
-row-of-requires : tie.Need-row-of-requires
-row-of-requires c κs = search needs
+-- the row is one of the five
+row : (c : tie.After-row-of) → c .row-of .result < 5
+row c = omega (arith, c .row-of .ensures, stream-range (start (c .before .before .before .before .before) .args .message .«type_id»))
 
-mul-previous : tie.Need-mul-previous
-mul-previous c = omega (arith, row (c .before))
-
-array-copy-out-previous : tie.Need-array-copy-out-previous
-array-copy-out-previous c = row (c .before)
-
-plan-packet-requires : tie.Need-plan-packet-requires
-plan-packet-requires c κs = search needs
+plan-for-requires : tie.Need-plan-for-requires
+plan-for-requires c κs = search needs
 
 bytes-needed-requires : tie.Need-bytes-needed-requires
 bytes-needed-requires c κs =
@@ -70,20 +57,24 @@ returns c =
     let n = c .before in
     rw (← needed n, lt-ltb (length (start (n .before) .args .output .now)) (n .bytes-needed .result) (c .if1 .taken)) refl
 
-mul-headers : tie.Need-mul-headers
-mul-headers c = omega (arith, row (c .before .before .before .before .before .before .before))
+row-of-requires : tie.Need-row-of-requires
+row-of-requires c κs = search needs
 
-array-set-from-headers : tie.Need-array-set-from-headers
-array-set-from-headers c = row (c .before .before .before .before .before .before .before)
+mul-header : tie.Need-mul-header
+mul-header c = omega (arith, row c)
+
+element-set-from-header : tie.Need-element-set-from-header
+element-set-from-header c = row c
 
 write-packet-requires : tie.Need-write-packet-requires
 write-packet-requires c κs =
-    let n = c .before .before .before .before in
+    let n = c .before .before .before .before .before in
     let p = n .before in
-    let stream = ap (λ (q : Plan). q .first .header .«chunk_stream_id») (plan p) in (
+    let stream = ap (λ (q : Plan). q .first .header .«chunk_stream_id») (p .plan-for .ensures) in (
       omega (arith, stream, stream-range (start p .args .message .«type_id»)),
       rw (size p) (omega arith),
-      omega (arith, n .bytes-needed .ensures, c .before .before .before .if1 .left),
+      start p .pre .0,
+      omega (arith, n .bytes-needed .ensures, c .before .before .before .before .if1 .left),
     )
 
 same-length : tie.Need-same-length
@@ -93,24 +84,22 @@ returns-2 : tie.Need-returns-2
 unfolding sent
 returns-2 c =
     let w = c .before .before in
-    let test = w .before .before .before .before in
+    let test = w .before .before .before .before .before in
     let n = test .before in
     let p = n .before in
     let long = le-ltb (length (start p .args .output .now)) (n .bytes-needed .result) (test .if1 .left) in
-    simp (written w, ← needed n, long, plan p, p .before .before .before .row-of .ensures) refl
+    simp (written w, ← needed n, long, p .plan-for .ensures, w .before .before .row-of .ensures) refl
 
 pub send-spec : {M : Type 1} → statement M
 send-spec =
     tie.close
     (tie.spec
-    row-of-requires
-    mul-previous
-    array-copy-out-previous
-    plan-packet-requires
+    plan-for-requires
     bytes-needed-requires
     returns
-    mul-headers
-    array-set-from-headers
+    row-of-requires
+    mul-header
+    element-set-from-header
     write-packet-requires
     same-length
     returns-2)

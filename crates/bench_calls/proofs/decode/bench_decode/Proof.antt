@@ -7,13 +7,13 @@ use Rattle.bench_calls.proofs.decode.bench_decode.Statement.{statement}
 use Rattle.bench_calls.proofs.decode.bench_decode.Tie as tie
 
 abbrev Inv-loop : tie.InvT-loop
-Inv-loop room size input piece every payload₀ report state₀ tally₀ end₀ at₀ payload state tally end at = (at ≤ length input) × (length payload ≡ length payload₀)
+Inv-loop held₀ rows₀ room size input piece every payload₀ report tally₀ end₀ at₀ held rows payload tally end at = (at ≤ length input) × (length payload ≡ length payload₀)
 
 abbrev μ-loop : tie.MeasureT-loop
-μ-loop room size input piece every payload₀ report state₀ tally₀ end₀ at₀ payload state tally end at = length input - at
+μ-loop held₀ rows₀ room size input piece every payload₀ report tally₀ end₀ at₀ held rows payload tally end at = length input - at
 
-decoder-requires : tie.Need-decoder-requires Inv-loop μ-loop
-decoder-requires c κs = search needs
+make-sized-requires : tie.Need-make-sized-requires Inv-loop μ-loop
+make-sized-requires c κs = search needs
 
 new-requires : tie.Need-new-requires Inv-loop μ-loop
 new-requires c κs = search needs
@@ -27,8 +27,8 @@ piece-end-requires c κs = search needs
 part-requires : tie.Need-part-requires Inv-loop μ-loop
 part-requires c κs = search needs
 
-get-next-message-requires : tie.Need-get-next-message-requires Inv-loop μ-loop
-get-next-message-requires c κs = search needs
+next-message-requires : tie.Need-next-message-requires Inv-loop μ-loop
+next-message-requires c κs = search needs
 
 counted-requires : tie.Need-counted-requires Inv-loop μ-loop
 counted-requires c κs = search needs
@@ -60,12 +60,12 @@ bench-decode-spec =
     (tie.spec
     Inv-loop
     μ-loop
-    decoder-requires
+    make-sized-requires
     new-requires
     loop-holds
     piece-end-requires
     part-requires
-    get-next-message-requires
+    next-message-requires
     counted-requires
     used-of-requires
     after-requires

@@ -6,13 +6,10 @@ use Rattle.captures.proofs.walk.walk_all.Statement.{statement}
 use Rattle.captures.proofs.walk.walk_all.Tie as tie
 
 abbrev Inv-loop : tie.InvT-loop
-Inv-loop capture payload₀ so-far₀ turns₀ payload so-far turns = length payload ≡ length payload₀
+Inv-loop held₀ rows₀ capture payload₀ so-far₀ turns₀ held rows payload so-far turns = length payload ≡ length payload₀
 
 abbrev μ-loop : tie.MeasureT-loop
-μ-loop capture payload₀ so-far₀ turns₀ payload so-far turns = turns
-
-start-requires : tie.Need-start-requires Inv-loop μ-loop
-start-requires c κs = search needs
+μ-loop held₀ rows₀ capture payload₀ so-far₀ turns₀ held rows payload so-far turns = turns
 
 loop-holds : tie.Need-loop-holds Inv-loop μ-loop
 loop-holds c = search needs
@@ -50,7 +47,6 @@ walk-all-spec =
     (tie.spec
     Inv-loop
     μ-loop
-    start-requires
     loop-holds
     turn-requires
     is-over-requires

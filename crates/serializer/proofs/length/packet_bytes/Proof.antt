@@ -1,61 +1,35 @@
--- Heads of at most 16 bytes, one for each chunk, and the payload once: nothing overflows, and the sum is the packet's length.
-use Prim.Native.Nat.{_-_, _*_, _/_, _≤_}
-use mathlib.Core.Path.{sym}
-use native.Mathlib.Nat.{mul-le-mul, div-le-self}
+-- A payload that fits one chunk has one head; any other is counted with the heads of all its chunks.
+use mathlib.Core.Path.{sym, ap, _∙_}
 use native.Mathlib.Omega.{arith}
 use lib.ListN.{length}
-use Rattle.chunk_header.specs.Limits.{maxLength}
 use Rattle.serializer.proofs.Chunk.{head-most}
-use Rattle.serializer.proofs.PacketLength.{length-packet}
+use Rattle.serializer.proofs.Later.{chunked-one}
+use Rattle.serializer.proofs.PacketLength.{length-chunk}
 use borrow.Author.Needs.{needs}
 use Rattle.serializer.proofs.length.packet_bytes.Statement.{statement}
 use Rattle.serializer.proofs.length.packet_bytes.Tie as tie
 
-abbrev start : tie.After-chunk-length2 → tie.Start
-start c = c .before .before .before
+chunks-length-requires : tie.Need-chunks-length-requires
+chunks-length-requires c κs = search needs
 
--- the heads of the later chunks
-heads : (c : tie.After-chunk-length2) → (length (start c .args .payload .now) - 1) / start c .args .size * c .chunk-length2 .result ≤ maxLength * 16
-heads c =
-    let a = start c .args in
-    let less : (length (a .payload .now) - 1) / a .size ≤ maxLength = omega (arith, div-le-self (length (a .payload .now) - 1) (a .size)) in
-    mul-le-mul {m₂ = 16} less (omega (arith, c .chunk-length2 .ensures, head-most (a .later) (a .header)))
-
-sub-more : tie.Need-sub-more
-sub-more c = search needs
-
-div-more : tie.Need-div-more
-div-more c = search needs
+returns : tie.Need-returns
+returns c = search needs
 
 chunk-length-requires : tie.Need-chunk-length-requires
 chunk-length-requires c κs = search needs
 
-chunk-length-requires-2 : tie.Need-chunk-length-requires-2
-chunk-length-requires-2 c κs = search needs
-
-mul-result : tie.Need-mul-result
-mul-result c = omega (arith, heads c)
-
 add-result : tie.Need-add-result
-add-result c = omega (arith, heads c, c .before .chunk-length .ensures, head-most (start c .args .first) (start c .args .header))
+add-result c =
+    let a = c .before .before .before .args in
+    omega (arith, c .chunk-length .ensures, head-most (a .first) (a .header))
 
-add-result-2 : tie.Need-add-result-2
-add-result-2 c = omega (arith, heads c, c .before .chunk-length .ensures, head-most (start c .args .first) (start c .args .header))
-
-returns : tie.Need-returns
-returns c =
-    let a = start c .args in
-    rw (c .before .chunk-length .ensures, c .chunk-length2 .ensures) (sym (length-packet (a .first) (a .later) (a .header) (a .size) (a .payload .now) (omega arith) (omega arith)))
+returns-2 : tie.Need-returns-2
+returns-2 c =
+    let s = c .before .before .before in
+    let a = s .args in
+    let one = chunked-one (a .first) (a .later) (a .header) (a .size) (a .payload .now) (s .pre .2) (s .pre .0) (c .before .if1 .left) in
+    rw (c .chunk-length .ensures) (sym (ap length one ∙ length-chunk (a .first) (a .header) (a .payload .now)))
 
 pub packet-bytes-spec : {M : Type 1} → statement M
 packet-bytes-spec =
-    tie.close
-    (tie.spec
-    sub-more
-    div-more
-    chunk-length-requires
-    chunk-length-requires-2
-    mul-result
-    add-result
-    add-result-2
-    returns)
+    tie.close (tie.spec chunks-length-requires returns chunk-length-requires add-result returns-2)

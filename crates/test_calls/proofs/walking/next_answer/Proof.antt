@@ -6,10 +6,10 @@ use Rattle.test_calls.proofs.walking.next_answer.Statement.{statement}
 use Rattle.test_calls.proofs.walking.next_answer.Tie as tie
 
 abbrev Inv-loop : tie.InvT-loop
-Inv-loop input payload₀ walked₀ turns₀ payload walked turns = length payload ≡ length payload₀
+Inv-loop held₀ rows₀ input payload₀ walked₀ turns₀ held rows payload walked turns = length payload ≡ length payload₀
 
 abbrev μ-loop : tie.MeasureT-loop
-μ-loop input payload₀ walked₀ turns₀ payload walked turns = turns
+μ-loop held₀ rows₀ input payload₀ walked₀ turns₀ held rows payload walked turns = turns
 
 offer-requires : tie.Need-offer-requires Inv-loop μ-loop
 offer-requires c κs = search needs

@@ -3,17 +3,17 @@ use Prim.Native.Nat.{_≤_, _-_}
 use mathlib.Core.Path.{_≡_}
 use borrow.Author.Needs.{needs}
 use lib.ListN.{length}
-use Rattle.deserializer.proofs.bench.core_decode.Statement.{statement}
-use Rattle.deserializer.proofs.bench.core_decode.Tie as tie
+use Rattle.bench_calls.proofs.by_value.bench_decode_by_value.Statement.{statement}
+use Rattle.bench_calls.proofs.by_value.bench_decode_by_value.Tie as tie
 
 abbrev Inv-loop : tie.InvT-loop
-Inv-loop room size input piece every payload₀ report rows₀ core₀ tally₀ end₀ at₀ payload rows core tally end at = (at ≤ length input) × (length payload ≡ length payload₀)
+Inv-loop room size input piece every payload₀ report state₀ tally₀ end₀ at₀ payload state tally end at = (at ≤ length input) × (length payload ≡ length payload₀)
 
 abbrev μ-loop : tie.MeasureT-loop
-μ-loop room size input piece every payload₀ report rows₀ core₀ tally₀ end₀ at₀ payload rows core tally end at = length input - at
+μ-loop room size input piece every payload₀ report state₀ tally₀ end₀ at₀ payload state tally end at = length input - at
 
-core-of-requires : tie.Need-core-of-requires Inv-loop μ-loop
-core-of-requires c κs = search needs
+decoder-requires : tie.Need-decoder-requires Inv-loop μ-loop
+decoder-requires c κs = search needs
 
 new-requires : tie.Need-new-requires Inv-loop μ-loop
 new-requires c κs = search needs
@@ -27,8 +27,11 @@ piece-end-requires c κs = search needs
 part-requires : tie.Need-part-requires Inv-loop μ-loop
 part-requires c κs = search needs
 
-feed-requires : tie.Need-feed-requires Inv-loop μ-loop
-feed-requires c κs = search needs
+get-next-message-requires : tie.Need-get-next-message-requires Inv-loop μ-loop
+get-next-message-requires c κs = search needs
+
+lent-requires : tie.Need-lent-requires Inv-loop μ-loop
+lent-requires c κs = search needs
 
 counted-requires : tie.Need-counted-requires Inv-loop μ-loop
 counted-requires c κs = search needs
@@ -54,18 +57,19 @@ same-length c = search needs
 returns : tie.Need-returns Inv-loop μ-loop
 returns c = search needs
 
-pub core-decode-spec : {M : Type 1} → statement M
-core-decode-spec =
+pub bench-decode-by-value-spec : {M : Type 1} → statement M
+bench-decode-by-value-spec =
     tie.close
     (tie.spec
     Inv-loop
     μ-loop
-    core-of-requires
+    decoder-requires
     new-requires
     loop-holds
     piece-end-requires
     part-requires
-    feed-requires
+    get-next-message-requires
+    lent-requires
     counted-requires
     used-of-requires
     after-requires

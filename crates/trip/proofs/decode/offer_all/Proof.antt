@@ -1,18 +1,15 @@
--- `trip::decode::decode_all` is safe and ends. Each turn leaves both buffers as long as they were; the measure is the number of turns left.
+-- `trip::decode::offer_all` is safe and ends. Each turn leaves both buffers as long as they were; the measure is the number of turns left.
 use mathlib.Core.Path.{_≡_}
 use borrow.Author.Needs.{needs}
 use lib.ListN.{length}
-use Rattle.trip.proofs.decode.decode_all.Statement.{statement}
-use Rattle.trip.proofs.decode.decode_all.Tie as tie
+use Rattle.trip.proofs.decode.offer_all.Statement.{statement}
+use Rattle.trip.proofs.decode.offer_all.Tie as tie
 
 abbrev Inv-loop : tie.InvT-loop
-Inv-loop wire places piece is-told payload₀ sent₀ so-far₀ turns₀ payload sent so-far turns = (length payload ≡ length payload₀) × (length sent ≡ length sent₀)
+Inv-loop held₀ rows₀ wire places payload₀ sent₀ so-far₀ turns₀ held rows payload sent so-far turns = (length payload ≡ length payload₀) × (length sent ≡ length sent₀)
 
 abbrev μ-loop : tie.MeasureT-loop
-μ-loop wire places piece is-told payload₀ sent₀ so-far₀ turns₀ payload sent so-far turns = turns
-
-new-requires : tie.Need-new-requires Inv-loop μ-loop
-new-requires c κs = search needs
+μ-loop held₀ rows₀ wire places payload₀ sent₀ so-far₀ turns₀ held rows payload sent so-far turns = turns
 
 loop-holds : tie.Need-loop-holds Inv-loop μ-loop
 loop-holds c = search needs
@@ -50,13 +47,12 @@ same-length-4 c = search needs
 returns-2 : tie.Need-returns-2 Inv-loop μ-loop
 returns-2 c = search needs
 
-pub decode-all-spec : {M : Type 1} → statement M
-decode-all-spec =
+pub offer-all-spec : {M : Type 1} → statement M
+offer-all-spec =
     tie.close
     (tie.spec
     Inv-loop
     μ-loop
-    new-requires
     loop-holds
     turn-requires
     is-over-requires
