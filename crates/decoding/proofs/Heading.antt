@@ -110,7 +110,7 @@ with-row Empty unused inside own = refl
 module _ (d : Decoder) (bs : List ℕ) (f : ChunkHeaderFormat) (place : ℕ) (w : Known d bs f place) (r h : Row) (row-is : r ≡ rowAt (d .rows) place)
     (header-is : h ≡ carried (headerIn f bs) r) (plain : h .«timestamp_field» ≢ maxField)
     (basic : basicRefusal f true true (not (eqb (d .reader .message .id) 0)) (eqb (d .reader .message .id) (r .id)) ≡ 0)
-    (head : refusalOf f r h (d .reader .message) (d .room) ≡ 0) where
+    (head : refusalOf f r h (d .reader .message) (d .setting .room) ≡ 0) where
   abbrev id : ℕ
   id = getD bs 0 0 % 64
 
@@ -143,7 +143,7 @@ module _ (d : Decoder) (bs : List ℕ) (f : ChunkHeaderFormat) (place : ℕ) (w 
   not-head = rw (format-in f bs, its-header, its-row) (by-message (eqb (d .reader .message .id) 0) refl)
     where
       by-message : (t : Bool) → eqb (d .reader .message .id) 0 ≡ t
-          → cond (not t) (laterRefusal f r h (h .«timestamp_field»)) (firstRefusal f h (h .«timestamp_field») (d .room)) ≡ 0
+          → cond (not t) (laterRefusal f r h (h .«timestamp_field»)) (firstRefusal f h (h .«timestamp_field») (d .setting .room)) ≡ 0
       by-message true e = rw e at head
       by-message false e = rw e at head
 
@@ -151,11 +151,11 @@ module _ (d : Decoder) (bs : List ℕ) (f : ChunkHeaderFormat) (place : ℕ) (w 
   head-fits = record { form = (w .id, omega arith); fields = fields-fit bs (w .bytes) f (w .long); extended = rw its-header plain }
 
   -- what is settled, by the row and the header
-  settles-so : opens (d .«max_chunk_size») (settled d begun [] Csid) (got d begun) ≡ settledBy (d .«max_chunk_size») f place r h (d .reader)
+  settles-so : opens (d .setting .size) (settled d begun [] Csid) (got d begun) ≡ settledBy (d .setting .size) f place r h (d .reader)
   settles-so = by-message (eqb (d .reader .message .id) 0) refl
     where
       by-message : (t : Bool) → eqb (d .reader .message .id) 0 ≡ t
-          → opens (d .«max_chunk_size») (settled d begun [] Csid) (got d begun) ≡ settledBy (d .«max_chunk_size») f place r h (d .reader)
+          → opens (d .setting .size) (settled d begun [] Csid) (got d begun) ≡ settledBy (d .setting .size) f place r h (d .reader)
       by-message true e = rw (e, format-in f bs, its-header, its-row, found, w .stage, w .place-is)
       by-message false e = rw (e, format-in f bs, its-header, its-row, found, w .stage, w .place-is)
 
@@ -164,7 +164,7 @@ module _ (d : Decoder) (bs : List ℕ) (f : ChunkHeaderFormat) (place : ℕ) (w 
 
   pub known-runs : (payload : List ℕ) (n : ℕ)
       → run bs d payload n
-      ≡ then d (settledBy (d .«max_chunk_size») f place r h (d .reader)) payload (n + (1 + headerLength (typeOf f))) (drop (1 + headerLength (typeOf f)) bs)
+      ≡ then d (settledBy (d .setting .size) f place r h (d .reader)) payload (n + (1 + headerLength (typeOf f))) (drop (1 + headerLength (typeOf f)) bs)
   known-runs payload n =
       let rest = drop (1 + headerLength (typeOf f)) bs in
       let k : n + 1 + length (headOf begun) + 0 ≡ n + (1 + headerLength (typeOf f)) = omega (arith, head-length f bs) in

@@ -26,7 +26,7 @@ module _ (d : Decoder) (r : Reader) (f : ChunkHeaderFormat) (payload : List ℕ)
   abbrev BasicRead : Form → ℕ → Type 0
   BasicRead form id =
       Reaches (run (basicBytes form (typeOf f) id ++ rest) (holding d (at r Csid)) payload n) d
-      (λ r′. named (d .room) (d .«max_chunk_size») (d .rows) r′ f id) r payload (n + length (basicBytes form (typeOf f) id)) rest
+      (λ r′. named (d .setting) (d .rows) r′ f id) r payload (n + length (basicBytes form (typeOf f) id)) rest
 
   one-byte : (id : ℕ) → 2 ≤ id → id ≤ 63 → BasicRead one id
   unfolding after

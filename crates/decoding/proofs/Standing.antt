@@ -58,8 +58,8 @@ step-stands : (d : Decoder) (b : ℕ) → Reached d → Stands (stepOf d b)
 unfolding stepOf
 step-stands d b k =
     tested Stands (inPayload (d .reader .stage))
-    (λ e. either Stands (pays (d .room) (d .reader)) (landed-stands (d .reader) 1 e (k .sound .owns (in-payload-past (d .reader .stage) e) .used)) tt)
-    (λ e. header-step Stands (d .reader .message) (d .room) (d .«max_chunk_size») (λ r place q a. a .begun) (λ r k. tt) (λ r got q z. opens-stands (d .«max_chunk_size») r got)
+    (λ e. either Stands (pays (d .setting .room) (d .reader)) (landed-stands (d .reader) 1 e (k .sound .owns (in-payload-past (d .reader .stage) e) .used)) tt)
+    (λ e. header-step Stands (d .reader .message) (d .setting) (λ r place q a. a .begun) (λ r k. tt) (λ r got q z. opens-stands (d .setting .size) r got)
     (d .reader .stage) (d .rows) (d .reader) b refl)
 
 pub more-not-message : {A : Type 0} {n type stream time long used : ℕ} → more n ≡ message type stream time long used → A

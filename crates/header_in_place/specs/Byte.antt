@@ -11,7 +11,7 @@ use Rattle.held.specs.Numbers.{encode}
 
 -- a byte of a header
 abbrev pub stepIn : Decoder → (byte : ℕ) → Stepped
-stepIn d b = stepped (d .reader .stage) (d .room) (d .«max_chunk_size») (d .rows) (d .reader) b
+stepIn d b = stepped (d .reader .stage) (d .setting) (d .rows) (d .reader) b
 
 -- what a byte of a header leaves of a decoder that is lent
 pub record Left (event : ℕ) (held rows : List ℕ) (d : Decoder) (s : Stepped) : Type 0 where

@@ -23,7 +23,7 @@ use Rattle.decoding.proofs.Standing.{refused-not-message}
 refused-stores-nothing : (d : Decoder) (payload : List ℕ) (x k : ℕ) → stepOf d x .event ≡ Refuse k → writes d payload x ≡ payload
 unfolding stepOf writes
 refused-stores-nothing d payload x k =
-    by-cases (inPayload (d .reader .stage)) (pays (d .room) (d .reader)) (stepped (d .reader .stage) (d .room) (d .«max_chunk_size») (d .rows) (d .reader) x)
+    by-cases (inPayload (d .reader .stage)) (pays (d .setting .room) (d .reader)) (stepped (d .reader .stage) (d .setting) (d .rows) (d .reader) x)
   where
     by-cases : (t u : Bool) (s : Stepped) → cond t (cond u (landed (d .reader) 1) (refuse (d .reader) 255)) s .event ≡ Refuse k
         → cond t (cond u (set payload (d .reader .message .got) x) payload) payload ≡ payload
