@@ -1,5 +1,4 @@
 -- What holds where a reader stops at a field, and where it goes past them all, holds of the next field: each is there or passed over.
-use Prim.Native.Nat.{ℕ}
 use mathlib.Core.Bool.{Bool, true, false, cond}
 use mathlib.Core.Path.{_≡_, refl}
 use lib.Dec.{eqb}

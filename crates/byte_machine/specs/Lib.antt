@@ -4,3 +4,4 @@ pub mod Reader
 pub mod Rows
 pub mod Step
 pub mod Setting
+pub mod Look

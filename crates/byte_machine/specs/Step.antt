@@ -14,7 +14,8 @@ use Rattle.chunk_meaning.specs.Stored.{Row, claimed, fielded, lengthed, streame
 use Rattle.chunk_meaning.specs.Meaning.{basicRefusal}
 use Rattle.byte_machine.specs.Reader.{Go, Reader, Stage, Csid as AtCsid, CsidSecond, CsidThird, InitialTimestamp, MessageLength, MessageTypeId, MessageStreamId, ExtendedTimestamp, MessagePayload, Stepped, at, go, guard, headed, reading, refuse}
 use Rattle.byte_machine.specs.Header.{extendedNext, lengthNext, streamNext, timestampNext, typeNext, whole}
-use Rattle.byte_machine.specs.Rows.{find, free, rowAt, rowCount}
+use Rattle.byte_machine.specs.Look.{Look}
+use Rattle.byte_machine.specs.Rows.{rowCount}
 use Rattle.byte_machine.specs.Setting.{Setting}
 
 -- a chunk of a stream that has a row, and one that claims a free row: a type 0, whose first field is the time of three bytes
@@ -24,22 +25,21 @@ known setting r format row place = timestampNext setting (reading r format place
 abbrev pub claims : Reader → ChunkHeaderFormat → (id place : ℕ) → Stepped
 claims r format id place = record { reader = at (reading r format place (claimed id) (claimed id)) (InitialTimestamp 0 3); event = Go; place = place }
 
--- the last byte of a basic header
-unfoldable pub named : Setting → (rows : List ℕ) → Reader → ChunkHeaderFormat → (id : ℕ) → Stepped
-named setting rows r format id =
-    let place = find rows id in
-    let k = basicRefusal format (ltb place rowCount) (ltb (free rows) rowCount) (not (eqb (r .message .id) 0)) (eqb (r .message .id) id) in
+-- the last byte of a basic header, by what the table says of the id
+unfoldable pub named : Setting → Look → Reader → ChunkHeaderFormat → (id : ℕ) → Stepped
+named setting said r format id =
+    let k = basicRefusal format (ltb (said .place) rowCount) (ltb (said .unused) rowCount) (not (eqb (r .message .id) 0)) (eqb (r .message .id) id) in
     cond (eqb k 0)
-    (cond (ltb place rowCount) (known setting r format (rowAt rows place) place) (claims r format id (free rows)))
+    (cond (ltb (said .place) rowCount) (known setting r format (said .row) (said .place)) (claims r format id (said .unused)))
     (refuse r k)
 
--- a basic header so far: an id, or kept until more of it has come
-abbrev pub basicBy : Csid → Setting → (rows : List ℕ) → Reader → ChunkHeaderFormat → (kept : Stage) → Stepped
-basicBy (Id id) setting rows r format kept = named setting rows r format id
-basicBy Incomplete setting rows r format kept = go (at r kept)
+-- a basic header so far: an id, of which the table is asked, or kept until more of it has come
+abbrev pub basicBy : Csid → Setting → (ask : ℕ → Look) → Reader → ChunkHeaderFormat → (kept : Stage) → Stepped
+basicBy (Id id) setting ask r format kept = named setting (ask id) r format id
+basicBy Incomplete setting ask r format kept = go (at r kept)
 
-abbrev pub basic : Setting → (rows : List ℕ) → Reader → (bytes : List ℕ) → (kept : Stage) → Stepped
-basic setting rows r bytes kept = basicBy (csid bytes) setting rows r (formatOf (getD bytes 0 0)) kept
+abbrev pub basic : Setting → (ask : ℕ → Look) → Reader → (bytes : List ℕ) → (kept : Stage) → Stepped
+basic setting ask r bytes kept = basicBy (csid bytes) setting ask r (formatOf (getD bytes 0 0)) kept
 
 -- one byte more of a number of four bytes at most
 abbrev pub gathered : (before byte : ℕ) → ℕ
@@ -71,13 +71,13 @@ unfoldable pub extendedField : Setting → Reader → (before lacks byte : ℕ) 
 extendedField setting r before lacks b = fieldByte before lacks b (λ n. whole setting r n) (λ n left. at r (ExtendedTimestamp n left))
 
 -- a byte of a header, by the field that it belongs to; a byte of a payload never comes here
-abbrev pub stepped : Stage → Setting → (rows : List ℕ) → Reader → (byte : ℕ) → Stepped
-stepped AtCsid setting rows r b = basic setting rows r (b ∷ []) (CsidSecond b)
-stepped (CsidSecond a) setting rows r b = basic setting rows r (a ∷ b ∷ []) (CsidThird a b)
-stepped (CsidThird a c) setting rows r b = basic setting rows r (a ∷ c ∷ b ∷ []) (CsidThird a c)
-stepped (InitialTimestamp before lacks) setting rows r b = timestampField setting r before lacks b
-stepped (MessageLength before lacks) setting rows r b = lengthField setting r before lacks b
-stepped MessageTypeId setting rows r b = typeField setting r b
-stepped (MessageStreamId before lacks) setting rows r b = streamField setting r before lacks b
-stepped (ExtendedTimestamp before lacks) setting rows r b = extendedField setting r before lacks b
-stepped MessagePayload setting rows r b = refuse r guard
+abbrev pub stepped : Stage → Setting → (ask : ℕ → Look) → Reader → (byte : ℕ) → Stepped
+stepped AtCsid setting ask r b = basic setting ask r (b ∷ []) (CsidSecond b)
+stepped (CsidSecond a) setting ask r b = basic setting ask r (a ∷ b ∷ []) (CsidThird a b)
+stepped (CsidThird a c) setting ask r b = basic setting ask r (a ∷ c ∷ b ∷ []) (CsidThird a c)
+stepped (InitialTimestamp before lacks) setting ask r b = timestampField setting r before lacks b
+stepped (MessageLength before lacks) setting ask r b = lengthField setting r before lacks b
+stepped MessageTypeId setting ask r b = typeField setting r b
+stepped (MessageStreamId before lacks) setting ask r b = streamField setting r before lacks b
+stepped (ExtendedTimestamp before lacks) setting ask r b = extendedField setting r before lacks b
+stepped MessagePayload setting ask r b = refuse r guard

@@ -15,6 +15,7 @@ use Rattle.decoding.specs.Call.{Outcome, after, run}
 use Rattle.byte_machine.specs.Step.{gathered, stepped}
 use Rattle.decoding.proofs.Runs.{holding, run-header, then}
 use Rattle.byte_machine.specs.Setting.{Setting}
+use Rattle.byte_machine.specs.Look.{look}
 
 -- a number of at most three digits, and one digit more
 three-digits : (j x : ℕ) → x < 256 ^ j → j ≤ 3 → x % 2 ^ 24 ≡ x
@@ -43,7 +44,7 @@ pub record Reaches (run′ : Outcome) (d : Decoder) (step : Reader → Stepped) 
 -- a field at some stage: what its last byte does with the number, and what any byte before it does
 module _ (mk : ℕ → ℕ → Stage) (done : Setting → Reader → ℕ → Stepped) (header : (x k : ℕ) → inPayload (mk x k) ≡ false)
     (steps : (x k : ℕ) (setting : Setting) (rows : List ℕ) (r : Reader) (b : ℕ)
-    → stepped (mk x k) setting rows r b ≡ cond (leb k 1) (done setting r (gathered x b)) (go (at r (mk (gathered x b) (k - 1))))) (d : Decoder) (r : Reader) (payload rest : List ℕ) where
+    → stepped (mk x k) setting (look rows) r b ≡ cond (leb k 1) (done setting r (gathered x b)) (go (at r (mk (gathered x b) (k - 1))))) (d : Decoder) (r : Reader) (payload rest : List ℕ) where
   -- what the last byte of the field does with its number
   abbrev ends : ℕ → Reader → Stepped
   ends number r′ = done (d .setting) r′ number

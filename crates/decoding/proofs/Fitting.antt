@@ -33,6 +33,7 @@ use Rattle.byte_machine.proofs.RowLaws.{Distinct, find-distinct, id-put, put-nu
 use Rattle.decoding.proofs.Sound.{Leaves, Sound, csid-used, in-payload-past, past}
 use Rattle.fields.proofs.Tests.{clash, never}
 use Rattle.byte_machine.specs.Setting.{Setting}
+use Rattle.byte_machine.specs.Look.{look}
 
 -- the fields that a chunk inside a message has only in a full header
 abbrev pub early : Stage → Bool
@@ -333,7 +334,7 @@ module _ (setting : Setting) (L : ℕ) (some : 0 < setting .size) where
 
   -- a byte of a header past its basic header
   byte-fits : (stage : Stage) (rows : List ℕ) (r : Reader) (b : ℕ) → r .stage ≡ stage → past stage ≡ true → inPayload stage ≡ false → Fits room L r
-      → Fitting room L (r .message .id) (stepped stage setting rows r b)
+      → Fitting room L (r .message .id) (stepped stage setting (look rows) r b)
   unfolding timestampField lengthField typeField streamField extendedField
   byte-fits AtCsid rows r b e p q f = never p
   byte-fits (CsidSecond a) rows r b e p q f = never p
@@ -387,7 +388,7 @@ not-not m h = by-cases (eqb m 0) refl
 -- the last byte of a basic header
 named-fits : (setting : Setting) (rows : List ℕ) (r : Reader) (format : ChunkHeaderFormat) (id : ℕ) → 0 < setting .size → id ≢ 0 → past (r .stage) ≡ false → Sound rows r
     → Fits (setting .room) (lengthOf rows (r .message .id)) r
-    → Fitting (setting .room) (lengthOf rows (r .message .id)) (r .message .id) (named setting rows r format id)
+    → Fitting (setting .room) (lengthOf rows (r .message .id)) (r .message .id) (named setting (look rows id) r format id)
 unfolding named
 named-fits setting rows r format id some n p s f =
     by-cases (ltb (find rows id) 64) refl
@@ -471,11 +472,11 @@ basic-fits : (setting : Setting) (rows : List ℕ) (r : Reader) (bytes : List �
     → 0 < setting .size
     → Sound rows r
     → Fits (setting .room) (lengthOf rows (r .message .id)) r
-    → Fitting (setting .room) (lengthOf rows (r .message .id)) (r .message .id) (basic setting rows r bytes kept)
+    → Fitting (setting .room) (lengthOf rows (r .message .id)) (r .message .id) (basic setting (look rows) r bytes kept)
 basic-fits setting rows r bytes kept p q some s f =
     let L = lengthOf rows (r .message .id) in
     let format = formatOf (getD bytes 0 0) in
-    csid-used (λ c. Fitting (setting .room) (lengthOf rows (r .message .id)) (r .message .id) (basicBy c setting rows r format kept)) bytes
+    csid-used (λ c. Fitting (setting .room) (lengthOf rows (r .message .id)) (r .message .id) (basicBy c setting (look rows) r format kept)) bytes
     (go-fits setting L some (at r kept) (record {
       got = f .got;
       room-for = f .room-for;
@@ -488,7 +489,7 @@ basic-fits setting rows r bytes kept p q some s f =
 -- a byte, by the stage
 stepped-fits : (stage : Stage) (setting : Setting) (rows : List ℕ) (r : Reader) (b : ℕ) → r .stage ≡ stage → inPayload stage ≡ false → 0 < setting .size → Sound rows r
     → Fits (setting .room) (lengthOf rows (r .message .id)) r
-    → Fitting (setting .room) (lengthOf rows (r .message .id)) (r .message .id) (stepped stage setting rows r b)
+    → Fitting (setting .room) (lengthOf rows (r .message .id)) (r .message .id) (stepped stage setting (look rows) r b)
 stepped-fits AtCsid setting rows r b e p some s f = basic-fits setting rows r (b ∷ []) (CsidSecond b) (rw e) refl some s f
 stepped-fits (CsidSecond a) setting rows r b e p some s f = basic-fits setting rows r (a ∷ b ∷ []) (CsidThird a b) (rw e) refl some s f
 stepped-fits (CsidThird a c) setting rows r b e p some s f = basic-fits setting rows r (a ∷ c ∷ b ∷ []) (CsidThird a c) (rw e) refl some s f
@@ -507,7 +508,7 @@ step-fits d b some s f = by-cases (inPayload (d .reader .stage)) (pays (d .setti
   where
     by-cases : (t u : Bool) → inPayload (d .reader .stage) ≡ t → pays (d .setting .room) (d .reader) ≡ u
         → Fitting (d .setting .room) (lengthOf (d .rows) (d .reader .message .id)) (d .reader .message .id)
-        (cond t (cond u (landed (d .reader) 1) (refuse (d .reader) 255)) (stepped (d .reader .stage) (d .setting) (d .rows) (d .reader) b))
+        (cond t (cond u (landed (d .reader) 1) (refuse (d .reader) 255)) (stepped (d .reader .stage) (d .setting) (look (d .rows)) (d .reader) b))
     by-cases true true e g =
         landed-fits (d .setting) _ some (d .reader) (s .owns (in-payload-past (d .reader .stage) e) .inside) e f
     by-cases true false e g = clash g (paying-pays (d .setting .room) _ (d .reader) (f .paying e))

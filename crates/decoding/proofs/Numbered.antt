@@ -14,7 +14,7 @@ use Rattle.chunk_header.specs.declared.Csid.the-variants.{Id, Incomplete}
 use Rattle.byte_machine.specs.Reader.{Event, Go, Chunk, Message, Refuse, Reader, Stage, Csid as AtCsid, CsidSecond, CsidThird, InitialTimestamp, MessageLength, MessageTypeId, MessageStreamId, ExtendedTimestamp, MessagePayload, Stepped, inPayload, refuse}
 use Rattle.byte_machine.specs.Header.{extendedNext, lacks, lengthNext, opens, streamNext, timestampNext, typeNext, whole}
 use Rattle.byte_machine.specs.Payload.{landed, pays}
-use Rattle.byte_machine.specs.Rows.{find, free, rowCount}
+use Rattle.byte_machine.specs.Rows.{rowCount}
 use Rattle.chunk_meaning.specs.Meaning.{basicRefusal, firstRefusal, laterRefusal}
 use Rattle.chunk_header.specs.Basic.{csid}
 use Rattle.chunk_header.specs.Limits.{maxField}
@@ -23,6 +23,7 @@ use Rattle.decoding.specs.Decoder.{Decoder}
 use Rattle.decoding.specs.Answer.{message, refused}
 use Rattle.decoding.specs.Call.{Outcome, after, closes, end, run, stepOf, writes}
 use Rattle.byte_machine.specs.Setting.{Setting}
+use Rattle.byte_machine.specs.Look.{look, Look}
 
 -- a step that is not refused with the number 0
 record Numbered (s : Stepped) : Type 0 where
@@ -80,18 +81,19 @@ module _ (setting : Setting) where
   unfolding timestampNext
   time-numbered r = either (eqb (lacks r Timestamp) 0) _ _ (length-numbered r) (goes _ _)
 
-  module _ (rows : List ℕ) (r : Reader) where
-    named-numbered : (format : ChunkHeaderFormat) (id : ℕ) → Numbered (named setting rows r format id)
+  module _ (ask : ℕ → Look) (r : Reader) where
+    named-numbered : (format : ChunkHeaderFormat) (id : ℕ) → Numbered (named setting (ask id) r format id)
     unfolding named
     named-numbered format id =
-        let place = find rows id in
-        tested (basicRefusal format (ltb place rowCount) (ltb (free rows) rowCount) (not (eqb (r .message .id) 0)) (eqb (r .message .id) id)) r _ (either (ltb place rowCount) _ _ (time-numbered _) (goes _ _))
+        let said = ask id in
+        tested (basicRefusal format (ltb (said .place) rowCount) (ltb (said .unused) rowCount) (not (eqb (r .message .id) 0)) (eqb (r .message .id) id)) r _
+        (either (ltb (said .place) rowCount) _ _ (time-numbered _) (goes _ _))
 
-    basic-numbered : (c : Csid) (format : ChunkHeaderFormat) (kept : Stage) → Numbered (basicBy c setting rows r format kept)
+    basic-numbered : (c : Csid) (format : ChunkHeaderFormat) (kept : Stage) → Numbered (basicBy c setting ask r format kept)
     basic-numbered (Id id) format kept = named-numbered format id
     basic-numbered Incomplete format kept = goes _ _
 
-    stepped-numbered : (stage : Stage) (b : ℕ) → Numbered (stepped stage setting rows r b)
+    stepped-numbered : (stage : Stage) (b : ℕ) → Numbered (stepped stage setting ask r b)
     unfolding timestampField lengthField typeField streamField extendedField
     stepped-numbered AtCsid b = basic-numbered (csid (b ∷ [])) _ _
     stepped-numbered (CsidSecond a) b = basic-numbered (csid (a ∷ b ∷ [])) _ _
@@ -111,7 +113,7 @@ step-numbered : (d : Decoder) (b : ℕ) → Numbered (stepOf d b)
 unfolding stepOf
 step-numbered d b =
     either (inPayload (d .reader .stage)) _ _ (either (pays (d .setting .room) (d .reader)) _ _ (landed-numbered (d .reader) 1) (refuses (d .reader) 255 (λ e. omega (arith, e))))
-    (stepped-numbered (d .setting) (d .rows) (d .reader) (d .reader .stage) b)
+    (stepped-numbered (d .setting) (look (d .rows)) (d .reader) (d .reader .stage) b)
 
 -- so a run that is refused leaves a closed decoder
 end-refused : (e : Event) (d : Decoder) (payload : List ℕ) (n k m number : ℕ) (o : Outcome) → ((j : ℕ) → e ≡ Refuse j → j ≢ 0) → d .closed ≡ closes e number

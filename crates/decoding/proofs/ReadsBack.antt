@@ -28,6 +28,7 @@ use Rattle.decoding.proofs.Identifying.{basic-read}
 use Rattle.byte_machine.proofs.Naming.{named-refused}
 use Rattle.decoding.proofs.Reading.{extended-read, header-read}
 use Rattle.decoding.proofs.Runs.{bulk, held-forgotten, holding, then}
+use Rattle.byte_machine.specs.Look.{look}
 
 -- the decoder once a stream has its row
 abbrev pub claiming : Decoder → ℕ → Decoder
@@ -89,13 +90,13 @@ module _ (d : Decoder) (c : Chunk) (payload : List ℕ) where
   read st = reader st (current (formatFor (c .header)) (placeOf (d .rows) (c .id)) (row d c) (header d c) 0) (d .reader .message)
 
   begins : (held : Reader) (st : Stage) (m : ℕ) (rest : List ℕ) → basicRefused d c ≡ 0 → (ltb (find (d .rows) (c .id)) 64 ≡ false → formatFor (c .header) ≡ Full)
-      → then (holding d held) (named (d .setting) (d .rows) (at (d .reader) st) (formatFor (c .header)) (c .id)) payload m rest
+      → then (holding d held) (named (d .setting) (look (d .rows) (c .id)) (at (d .reader) st) (formatFor (c .header)) (c .id)) payload m rest
       ≡ then (holding (claiming d (c .id)) held) (timestampNext (d .setting) (reading st)) payload m rest
   unfolding named timestampNext fieldLength after
   begins held st m rest k f = by-row (ltb (find (d .rows) (c .id)) 64) refl
     where
       by-row : (t : Bool) → ltb (find (d .rows) (c .id)) 64 ≡ t
-          → then (holding d held) (named (d .setting) (d .rows) (at (d .reader) st) (formatFor (c .header)) (c .id)) payload m rest
+          → then (holding d held) (named (d .setting) (look (d .rows) (c .id)) (at (d .reader) st) (formatFor (c .header)) (c .id)) payload m rest
           ≡ then (holding (claiming d (c .id)) held) (timestampNext (d .setting) (reading st)) payload m rest
       by-row true e = rw (k, e)
       by-row false e =
@@ -208,7 +209,7 @@ module _ (d : Decoder) (c : Chunk) (payload : List ℕ) where
 
   -- to the last byte of the basic header
   basic-back : (n : ℕ) (rest : List ℕ) → d .reader .stage ≡ Csid → FormFits (c .form) (c .id)
-      → Reaches (run (basicOf c ++ rest) d payload n) d (λ r. named (d .setting) (d .rows) r (formatFor (c .header)) (c .id)) (d .reader) payload
+      → Reaches (run (basicOf c ++ rest) d payload n) d (λ r. named (d .setting) (look (d .rows) (c .id)) r (formatFor (c .header)) (c .id)) (d .reader) payload
       (n + length (basicOf c)) rest
   basic-back n rest s fits =
       rw (put-between d s) at (rw (type-for (c .header)) at (basic-read d (d .reader) (formatFor (c .header)) payload n rest (c .form) (c .id) fits))

@@ -17,6 +17,7 @@ use Rattle.decoding.specs.Answer.{more, refused}
 use Rattle.decoding.specs.Call.{Outcome, outcome, isRefusal, stepOf, writes, after, end, run, next}
 use Rattle.byte_machine.specs.Payload.{paid, pays, landed}
 use Rattle.byte_machine.specs.Step.{stepped}
+use Rattle.byte_machine.specs.Look.{look}
 
 -- what follows a step of a decoder: the answer, or the rest of the run
 abbrev pub then : Decoder → Stepped → List ℕ → ℕ → List ℕ → Outcome
@@ -52,7 +53,7 @@ pays-tells room r = go-on (eqb (r .chunk .left) 0) refl
 -- one byte of a header, of a payload that cannot be, and of one that may come
 module _ (b : ℕ) (bs : List ℕ) (d : Decoder) (payload : List ℕ) (n : ℕ) where
   pub run-header : inPayload (d .reader .stage) ≡ false
-      → run (b ∷ bs) d payload n ≡ then d (stepped (d .reader .stage) (d .setting) (d .rows) (d .reader) b) payload (n + 1) bs
+      → run (b ∷ bs) d payload n ≡ then d (stepped (d .reader .stage) (d .setting) (look (d .rows)) (d .reader) b) payload (n + 1) bs
   unfolding run stepOf writes
   run-header h = rw h
 

@@ -30,6 +30,7 @@ use Rattle.fields.proofs.Tests.{clash, never}
 use Rattle.byte_machine.proofs.Passing.{at-stream, at-type, at-length, at-timestamp, either}
 use Rattle.byte_machine.proofs.RowLaws.{Distinct, alone-none, alone-there, distinct-put, find-tells, found, id-put, length-putRow, put-found}
 use Rattle.byte_machine.specs.Setting.{Setting}
+use Rattle.byte_machine.specs.Look.{look}
 
 -- the basic header is whole: a field of the header comes, or payload
 abbrev pub past : Stage → Bool
@@ -160,7 +161,7 @@ module _ (rows : List ℕ) where
 
   -- a byte of a header, past its basic header
   field-stays : (stage : Stage) (setting : Setting) (r : Reader) (b : ℕ) → past stage ≡ true → HasRow rows (r .message .id)
-      → StaysAt rows r (stepped stage setting rows r b)
+      → StaysAt rows r (stepped stage setting (look rows) r b)
   unfolding timestampField lengthField typeField streamField extendedField
   field-stays AtCsid setting r b p h = never p
   field-stays (CsidSecond a) setting r b p h = never p
@@ -217,7 +218,7 @@ claims-sound rows r format id s n none h =
 
 -- the last byte of a basic header
 named-sound : (setting : Setting) (rows : List ℕ) (r : Reader) (format : ChunkHeaderFormat) (id : ℕ) → Sound rows r → past (r .stage) ≡ false → id ≢ 0
-    → Leaves rows (named setting rows r format id)
+    → Leaves rows (named setting (look rows id) r format id)
 unfolding named
 named-sound setting rows r format id s p n =
     let inside = not (eqb (r .message .id) 0) in
@@ -255,10 +256,10 @@ named-sound setting rows r format id s p n =
 
 -- a byte of a basic header
 basic-sound : (setting : Setting) (rows : List ℕ) (r : Reader) (bytes : List ℕ) (kept : Stage) → Sound rows r → past (r .stage) ≡ false → past kept ≡ false
-    → Leaves rows (basic setting rows r bytes kept)
+    → Leaves rows (basic setting (look rows) r bytes kept)
 basic-sound setting rows r bytes kept s p q =
     let format = formatOf (getD bytes 0 0) in
-    csid-used (λ c. Leaves rows (basicBy c setting rows r format kept)) bytes (waits-sound rows r (at r kept) q refl s)
+    csid-used (λ c. Leaves rows (basicBy c setting (look rows) r format kept)) bytes (waits-sound rows r (at r kept) q refl s)
     (λ id n. named-sound setting rows r format id s p n)
 
 -- the chunk that is read has a row
@@ -267,13 +268,13 @@ owned rows r o n = found rows (r .chunk .header .id) (r .chunk .place) (o .insid
 
 -- a byte of a header past its basic header
 field-sound : (stage : Stage) (setting : Setting) (rows : List ℕ) (r : Reader) (b : ℕ) → past (r .stage) ≡ true → past stage ≡ true → Sound rows r
-    → Leaves rows (stepped stage setting rows r b)
+    → Leaves rows (stepped stage setting (look rows) r b)
 field-sound stage setting rows r b p q s =
     stays-sound rows _ _ _ (s .long) (s .distinct) (s .owns p) (field-stays rows stage setting r b q (s .begun))
 
 -- a byte, by the stage
 stepped-sound : (stage : Stage) (setting : Setting) (rows : List ℕ) (r : Reader) (b : ℕ) → r .stage ≡ stage → Sound rows r
-    → Leaves rows (stepped stage setting rows r b)
+    → Leaves rows (stepped stage setting (look rows) r b)
 stepped-sound AtCsid setting rows r b e s = basic-sound setting rows r (b ∷ []) (CsidSecond b) s (rw e) refl
 stepped-sound (CsidSecond a) setting rows r b e s = basic-sound setting rows r (a ∷ b ∷ []) (CsidThird a b) s (rw e) refl
 stepped-sound (CsidThird a c) setting rows r b e s = basic-sound setting rows r (a ∷ c ∷ b ∷ []) (CsidThird a c) s (rw e) refl
@@ -303,7 +304,7 @@ step-sound d b s = by-cases (inPayload (d .reader .stage)) (pays (d .setting .ro
   where
     by-cases : (t u : Bool) → inPayload (d .reader .stage) ≡ t
         → Leaves (d .rows)
-        (cond t (cond u (landed (d .reader) 1) (refuse (d .reader) 255)) (stepped (d .reader .stage) (d .setting) (d .rows) (d .reader) b))
+        (cond t (cond u (landed (d .reader) 1) (refuse (d .reader) 255)) (stepped (d .reader .stage) (d .setting) (look (d .rows)) (d .reader) b))
     by-cases true true e =
         let o = s .owns (in-payload-past (d .reader .stage) e) in
         stays-sound (d .rows) _ _ _ (s .long) (s .distinct) o (landed-stays (d .rows) (d .reader) 1 (s .begun) (owned (d .rows) (d .reader) o))

@@ -11,13 +11,14 @@ use Rattle.decoding.specs.Answer.{Listed, message, more, refused}
 use Rattle.byte_machine.specs.Payload.{landed, pays}
 use Rattle.byte_machine.specs.Step.{stepped}
 use Rattle.byte_machine.specs.Rows.{putAt}
+use Rattle.byte_machine.specs.Look.{look}
 
 -- what a byte does: a byte of a payload that may come is stored at its own place
 unfoldable pub stepOf : Decoder → (byte : ℕ) → Stepped
 stepOf d b =
     cond (inPayload (d .reader .stage))
     (cond (pays (d .setting .room) (d .reader)) (landed (d .reader) 1) (refuse (d .reader) guard))
-    (stepped (d .reader .stage) (d .setting) (d .rows) (d .reader) b)
+    (stepped (d .reader .stage) (d .setting) (look (d .rows)) (d .reader) b)
 
 unfoldable pub writes : Decoder → (payload : List ℕ) → (byte : ℕ) → List ℕ
 writes d payload b = cond (inPayload (d .reader .stage)) (cond (pays (d .setting .room) (d .reader)) (set payload (d .reader .message .got) b) payload) payload

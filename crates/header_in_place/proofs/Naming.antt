@@ -23,10 +23,11 @@ use Rattle.held.proofs.Formats.{from-again}
 use Rattle.header_in_place.specs.Byte.{bytesOf, keptOf}
 use Rattle.header_in_place.proofs.Keeping.{free-known}
 use Rattle.byte_machine.specs.Setting.{Setting}
+use Rattle.byte_machine.specs.Look.{look, Look}
 
 module _ (h : Held) (rows : List ℕ) (first id format place k : ℕ) (t : format ≡ typeOf (formatOf first)) (p : place ≡ find rows id) where
   abbrev said : Stepped
-  said = named (settingIn h) rows (readerFrom h) (formatOf first) id
+  said = named (settingIn h) (look rows id) (readerFrom h) (formatOf first) id
 
   same-format : formatFrom format ≡ formatOf first
   same-format = ap (λ (n : ℕ). formatFrom n) t ∙ from-again (formatOf first)
@@ -63,17 +64,17 @@ module _ (h : Held) (rows : List ℕ) (first id format place k : ℕ) (t : forma
         ∙ ap (λ (s : Stepped). doneOf h s) (named-claims (settingIn h) rows (readerFrom h) (formatOf first) id place unused k p u of-none z none)
 
 -- a byte of a basic header
-pub basic-at : (st : Stage) (setting : Setting) (rows : List ℕ) (r : Reader) (b : ℕ) → codeOf st < 3
-    → basicBy (csid (bytesOf st b)) setting rows r (formatOf (getD (bytesOf st b) 0 0)) (keptOf st b) ≡ stepped st setting rows r b
-basic-at Csid setting rows r b h = refl
-basic-at (CsidSecond a) setting rows r b h = refl
-basic-at (CsidThird a c) setting rows r b h = refl
-basic-at (InitialTimestamp n l) setting rows r b h = absurd (omega (arith, h))
-basic-at (MessageLength n l) setting rows r b h = absurd (omega (arith, h))
-basic-at MessageTypeId setting rows r b h = absurd (omega (arith, h))
-basic-at (MessageStreamId n l) setting rows r b h = absurd (omega (arith, h))
-basic-at (ExtendedTimestamp n l) setting rows r b h = absurd (omega (arith, h))
-basic-at MessagePayload setting rows r b h = absurd (omega (arith, h))
+pub basic-at : (st : Stage) (setting : Setting) (ask : ℕ → Look) (r : Reader) (b : ℕ) → codeOf st < 3
+    → basicBy (csid (bytesOf st b)) setting ask r (formatOf (getD (bytesOf st b) 0 0)) (keptOf st b) ≡ stepped st setting ask r b
+basic-at Csid setting ask r b h = refl
+basic-at (CsidSecond a) setting ask r b h = refl
+basic-at (CsidThird a c) setting ask r b h = refl
+basic-at (InitialTimestamp n l) setting ask r b h = absurd (omega (arith, h))
+basic-at (MessageLength n l) setting ask r b h = absurd (omega (arith, h))
+basic-at MessageTypeId setting ask r b h = absurd (omega (arith, h))
+basic-at (MessageStreamId n l) setting ask r b h = absurd (omega (arith, h))
+basic-at (ExtendedTimestamp n l) setting ask r b h = absurd (omega (arith, h))
+basic-at MessagePayload setting ask r b h = absurd (omega (arith, h))
 
 -- a basic header of two bytes or three keeps its first
 pub kept-first : (s n l b : ℕ) → s ≢ 0 → s < 3 → getD (bytesOf (stageFrom s n l) b) 0 0 ≡ n

@@ -1,5 +1,5 @@
 -- A byte keeps the one bound that numbers need: the second byte of a basic header of three is a byte.
-use Prim.Native.Nat.{ℕ, _-_, _%_, _<_}
+use Prim.Native.Nat.{ℕ, _-_, _<_}
 use mathlib.Core.Path.{_≡_, refl}
 use mathlib.Core.Bool.{Bool, true, false, cond, not}
 use mathlib.Core.List.{List, [], _∷_}
@@ -24,9 +24,10 @@ use Rattle.byte_machine.specs.Step.{basicBy, claims, extendedField, gathered, l
 use Rattle.byte_machine.proofs.Passing.{at-length, at-stream, at-timestamp, at-type, either}
 use Rattle.decoding.specs.Call.{after, isRefusal}
 use Rattle.header_in_place.specs.Byte.{Left, stepIn}
-use Rattle.held.specs.Numbers.{again, decode, stageFrom}
+use Rattle.held.specs.Numbers.{decode}
 use Rattle.held.proofs.Again.{decode-encode, from-small, third}
 use Rattle.byte_machine.specs.Setting.{Setting}
+use Rattle.byte_machine.specs.Look.{look}
 
 record Small (s : Stepped) : Type 0 where
   is : third (s .reader .stage) < 256
@@ -63,7 +64,7 @@ module _ (setting : Setting) where
   extended-small r h = either Small (eqb (r .chunk .header .«timestamp_field») maxField) (none {s = go (at r (ExtendedTimestamp 0 4))} refl) (whole-small r h (r .chunk .header .«timestamp_field»))
 
   module _ (r : Reader) (h : third (r .stage) < 256) where
-    named-small : (rows : List ℕ) (format : ChunkHeaderFormat) (id : ℕ) → Small (named setting rows r format id)
+    named-small : (rows : List ℕ) (format : ChunkHeaderFormat) (id : ℕ) → Small (named setting (look rows id) r format id)
     unfolding named
     named-small rows format id =
         let place = find rows id in
@@ -73,11 +74,11 @@ module _ (setting : Setting) where
         (either Small (ltb place 64) (at-timestamp Small setting there (λ field e. stops-small there field (lacks there field)) (extended-small there h)) (none {s = claims r format id (free rows)} refl))
         (small {s = refuse r k} h)
 
-    basic-small : (read : Read) (rows : List ℕ) (format : ChunkHeaderFormat) (kept : Stage) → third kept < 256 → Small (basicBy read setting rows r format kept)
+    basic-small : (read : Read) (rows : List ℕ) (format : ChunkHeaderFormat) (kept : Stage) → third kept < 256 → Small (basicBy read setting (look rows) r format kept)
     basic-small (Id id) rows format kept k = named-small rows format id
     basic-small Incomplete rows format kept k = small k
 
-    stepped-small : (st : Stage) (rows : List ℕ) (b : ℕ) → third st < 256 → b < 256 → Small (stepped st setting rows r b)
+    stepped-small : (st : Stage) (rows : List ℕ) (b : ℕ) → third st < 256 → b < 256 → Small (stepped st setting (look rows) r b)
     unfolding timestampField lengthField typeField streamField extendedField
     stepped-small Csid rows b s k = basic-small (csid (b ∷ [])) rows (formatOf b) (CsidSecond b) (omega arith)
     stepped-small (CsidSecond a) rows b s k = basic-small (csid (a ∷ b ∷ [])) rows (formatOf a) (CsidThird a b) k

@@ -1,6 +1,7 @@
 // The basic header.
 ghost use mathlib.Core.Path.{_≡_};
 ghost use mathlib.Core.List.{[], _∷_};
+ghost use Rattle.byte_machine.specs.Look.{look};
 ghost use Rattle.byte_machine.specs.Reader.{at, go};
 ghost use Prim.Native.Nat.{_≤_, _<_};
 ghost use lib.ListN.{getD};
@@ -98,7 +99,7 @@ fn claims(h: Held, format: u32, id: u32, place: u32) -> Done
 
 // The last byte of a basic header that says this id.
 fn named(h: Held, rows: &[u32; 384], first: u32, id: u32) -> Done
-    ensures { λ r. ⌜ r ≡ doneOf h (Machine·named (settingIn h) (now (rows .entry)) (readerFrom h) (formatOf first) id) ⌝ }
+    ensures { λ r. ⌜ r ≡ doneOf h (Machine·named (settingIn h) (look (now (rows .entry)) id) (readerFrom h) (formatOf first) id) ⌝ }
 {
     let format = type_in(first);
     let place = find(rows, id);

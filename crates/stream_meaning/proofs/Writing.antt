@@ -23,6 +23,7 @@ use Rattle.decoding.proofs.Fitting.{paying-pays}
 use Rattle.decoding.proofs.Reached.{Reached, made-reaches, step-reached}
 use Rattle.decoding.proofs.Runs.{next-runs}
 use Rattle.decoding.proofs.Sound.{in-payload-past}
+use Rattle.byte_machine.specs.Look.{look}
 
 -- where a byte leaves the reader, unless it is answered
 abbrev Stays : ℕ → Event → Reader → Type 0
@@ -64,7 +65,7 @@ module _ (d : Decoder) (b : ℕ) (k : Reached d) where
       rw e (
         refl,
         header-step (At (comeOf m)) m (d .setting) (λ r place q a. goes-at r (ap comeOf q) a) (λ r k. tt)
-            (λ r got q z. rw z (opens-at (d .setting .size) r (comeOf m))) (d .reader .stage) (d .rows) (d .reader) b refl,
+            (λ r got q z. rw z (opens-at (d .setting .size) r (comeOf m))) (d .reader .stage) (look (d .rows)) (d .reader) b refl,
       )
 
 -- a byte, and those after it
