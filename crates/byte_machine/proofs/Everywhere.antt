@@ -1,7 +1,7 @@
 -- A byte of a header goes on within the header, is refused or opens the payload: what holds of these three holds of its step, whatever its field.
 use Prim.Native.Nat.{ℕ}
 use mathlib.Core.Bool.{false, not}
-use mathlib.Core.List.{List, [], _∷_}
+use mathlib.Core.List.{[], _∷_}
 use mathlib.Core.Path.{_≡_, refl}
 use lib.Dec.{eqb, leb, ltb}
 use Rattle.chunk_header.specs.declared.ChunkHeaderFormat.{ChunkHeaderFormat}
@@ -15,9 +15,11 @@ use Rattle.chunk_header.specs.Table.{formatOf}
 use Rattle.chunk_meaning.specs.Meaning.{basicRefusal, firstRefusal, laterRefusal}
 use Rattle.byte_machine.specs.Reader.{Go, Reader, Stage, Csid as AtCsid, CsidSecond, CsidThird, InitialTimestamp, MessageLength, MessageTypeId, MessageStreamId, ExtendedTimestamp, MessagePayload, Stepped, Unfinished, at, atStart, comeOf, go, guard, inPayload, refuse}
 use Rattle.byte_machine.specs.Header.{extendedNext, lacks, lengthNext, opens, stageOf, streamNext, timestampNext, typeNext, whole}
-use Rattle.byte_machine.specs.Rows.{find, free}
+use Rattle.byte_machine.specs.Rows.{rowCount}
 use Rattle.byte_machine.specs.Step.{basicBy, extendedField, lengthField, named, stepped, streamField, timestampField, typeField}
 use Rattle.byte_machine.proofs.Passing.{at-length, at-stream, at-timestamp, at-type, either, tested}
+use Rattle.byte_machine.specs.Setting.{Setting}
+use Rattle.byte_machine.specs.Look.{Look}
 
 -- a stage within a header: neither a chunk's start nor its payload
 pub record Amid (stage : Stage) : Type 0 where
@@ -25,10 +27,10 @@ pub record Amid (stage : Stage) : Type 0 where
   pub no-payload : inPayload stage ≡ false
 
 -- a property of steps, of readers with this unfinished message: a header byte leaves that as it is
-module _ (P : Stepped → Type 0) (m : Unfinished) (room size : ℕ)
+module _ (P : Stepped → Type 0) (m : Unfinished) (setting : Setting)
     (goes : (r : Reader) (place : ℕ) → r .message ≡ m → Amid (r .stage) → P (record { reader = r; event = Go; place = place }))
     (refuses : (r : Reader) (k : ℕ) → P (refuse r k))
-    (opened : (r : Reader) (got : ℕ) → r .message ≡ m → got ≡ comeOf m → P (opens size r got)) where
+    (opened : (r : Reader) (got : ℕ) → r .message ≡ m → got ≡ comeOf m → P (opens (setting .size) r got)) where
   goes-to : (r : Reader) (stage : Stage) → r .message ≡ m → Amid stage → P (go (at r stage))
   goes-to r stage e a = goes (at r stage) _ e a
 
@@ -39,16 +41,16 @@ module _ (P : Stepped → Type 0) (m : Unfinished) (room size : ℕ)
   within StreamId n = record { begun = refl; no-payload = refl }
 
   -- the steps of a header, from its last field to its first
-  at-whole : (r : Reader) (time : ℕ) → r .message ≡ m → P (whole room size r time)
+  at-whole : (r : Reader) (time : ℕ) → r .message ≡ m → P (whole setting r time)
   unfolding whole
   at-whole r time e =
-      let k = firstRefusal (r .chunk .format) (r .chunk .header) time room in
+      let k = firstRefusal (r .chunk .format) (r .chunk .header) time (setting .room) in
       let j = laterRefusal (r .chunk .format) (r .chunk .before) (r .chunk .header) time in
       tested P (eqb (r .message .id) 0)
       (λ q. either P (eqb k 0) (opened _ 0 e (rw (← e, q))) (refuses r k))
       (λ q. either P (eqb j 0) (opened _ (r .message .got) e (rw (← e, q))) (refuses r j))
 
-  at-extended : (r : Reader) → r .message ≡ m → P (extendedNext room size r)
+  at-extended : (r : Reader) → r .message ≡ m → P (extendedNext setting r)
   unfolding extendedNext
   at-extended r e =
       either P (eqb (r .chunk .header .«timestamp_field») maxField) (goes-to r (ExtendedTimestamp 0 4) e (record { begun = refl; no-payload = refl }))
@@ -57,40 +59,40 @@ module _ (P : Stepped → Type 0) (m : Unfinished) (room size : ℕ)
   stops : (r : Reader) → r .message ≡ m → (field : HeaderField) → eqb (lacks r field) 0 ≡ false → P (go (at r (stageOf field (lacks r field))))
   stops r e field q = goes-to r (stageOf field (lacks r field)) e (within field (lacks r field))
 
-  timestamp-at : (r : Reader) → r .message ≡ m → P (timestampNext room size r)
-  timestamp-at r e = at-timestamp P room size r (stops r e) (at-extended r e)
+  timestamp-at : (r : Reader) → r .message ≡ m → P (timestampNext setting r)
+  timestamp-at r e = at-timestamp P setting r (stops r e) (at-extended r e)
 
-  length-at : (r : Reader) → r .message ≡ m → P (lengthNext room size r)
-  length-at r e = at-length P room size r (stops r e) (at-extended r e)
+  length-at : (r : Reader) → r .message ≡ m → P (lengthNext setting r)
+  length-at r e = at-length P setting r (stops r e) (at-extended r e)
 
-  type-at : (r : Reader) → r .message ≡ m → P (typeNext room size r)
-  type-at r e = at-type P room size r (stops r e) (at-extended r e)
+  type-at : (r : Reader) → r .message ≡ m → P (typeNext setting r)
+  type-at r e = at-type P setting r (stops r e) (at-extended r e)
 
-  stream-at : (r : Reader) → r .message ≡ m → P (streamNext room size r)
-  stream-at r e = at-stream P room size r (stops r e) (at-extended r e)
+  stream-at : (r : Reader) → r .message ≡ m → P (streamNext setting r)
+  stream-at r e = at-stream P setting r (stops r e) (at-extended r e)
 
-  at-named : (rows : List ℕ) (r : Reader) (f : ChunkHeaderFormat) (id : ℕ) → r .message ≡ m → P (named room size rows r f id)
+  at-named : (said : Look) (r : Reader) (f : ChunkHeaderFormat) (id : ℕ) → r .message ≡ m → P (named setting said r f id)
   unfolding named
-  at-named rows r f id e =
-      let k = basicRefusal f (ltb (find rows id) 64) (ltb (free rows) 64) (not (eqb (r .message .id) 0)) (eqb (r .message .id) id) in
+  at-named said r f id e =
+      let k = basicRefusal f (ltb (said .place) rowCount) (ltb (said .unused) rowCount) (not (eqb (r .message .id) 0)) (eqb (r .message .id) id) in
       either P (eqb k 0)
-      (either P (ltb (find rows id) 64) (timestamp-at _ e) (goes _ _ e (record { begun = refl; no-payload = refl })))
+      (either P (ltb (said .place) rowCount) (timestamp-at _ e) (goes _ _ e (record { begun = refl; no-payload = refl })))
       (refuses r k)
 
-  at-basic : (x : Csid) (rows : List ℕ) (r : Reader) (f : ChunkHeaderFormat) (kept : Stage) → r .message ≡ m → Amid kept → P (basicBy x room size rows r f kept)
-  at-basic (Id id) rows r f kept e a = at-named rows r f id e
-  at-basic Incomplete rows r f kept e a = goes-to r kept e a
+  at-basic : (x : Csid) (ask : ℕ → Look) (r : Reader) (f : ChunkHeaderFormat) (kept : Stage) → r .message ≡ m → Amid kept → P (basicBy x setting ask r f kept)
+  at-basic (Id id) ask r f kept e a = at-named (ask id) r f id e
+  at-basic Incomplete ask r f kept e a = goes-to r kept e a
 
-  pub header-step : (stage : Stage) (rows : List ℕ) (r : Reader) (b : ℕ) → r .message ≡ m → P (stepped stage room size rows r b)
+  pub header-step : (stage : Stage) (ask : ℕ → Look) (r : Reader) (b : ℕ) → r .message ≡ m → P (stepped stage setting ask r b)
   unfolding timestampField lengthField typeField streamField extendedField
-  header-step AtCsid rows r b e = at-basic (csid (b ∷ [])) rows r (formatOf b) (CsidSecond b) e (record { begun = refl; no-payload = refl })
-  header-step (CsidSecond x) rows r b e = at-basic (csid (x ∷ b ∷ [])) rows r (formatOf x) (CsidThird x b) e (record { begun = refl; no-payload = refl })
-  header-step (CsidThird x y) rows r b e = at-basic (csid (x ∷ y ∷ b ∷ [])) rows r (formatOf x) (CsidThird x y) e (record { begun = refl; no-payload = refl })
-  header-step (InitialTimestamp before n) rows r b e =
+  header-step AtCsid ask r b e = at-basic (csid (b ∷ [])) ask r (formatOf b) (CsidSecond b) e (record { begun = refl; no-payload = refl })
+  header-step (CsidSecond x) ask r b e = at-basic (csid (x ∷ b ∷ [])) ask r (formatOf x) (CsidThird x b) e (record { begun = refl; no-payload = refl })
+  header-step (CsidThird x y) ask r b e = at-basic (csid (x ∷ y ∷ b ∷ [])) ask r (formatOf x) (CsidThird x y) e (record { begun = refl; no-payload = refl })
+  header-step (InitialTimestamp before n) ask r b e =
       either P (leb n 1) (length-at _ e) (goes-to r _ e (record { begun = refl; no-payload = refl }))
-  header-step (MessageLength before n) rows r b e =
+  header-step (MessageLength before n) ask r b e =
       either P (leb n 1) (type-at _ e) (goes-to r _ e (record { begun = refl; no-payload = refl }))
-  header-step MessageTypeId rows r b e = stream-at _ e
-  header-step (MessageStreamId before n) rows r b e = either P (leb n 1) (at-extended _ e) (goes-to r _ e (record { begun = refl; no-payload = refl }))
-  header-step (ExtendedTimestamp before n) rows r b e = either P (leb n 1) (at-whole r _ e) (goes-to r _ e (record { begun = refl; no-payload = refl }))
-  header-step MessagePayload rows r b e = refuses r guard
+  header-step MessageTypeId ask r b e = stream-at _ e
+  header-step (MessageStreamId before n) ask r b e = either P (leb n 1) (at-extended _ e) (goes-to r _ e (record { begun = refl; no-payload = refl }))
+  header-step (ExtendedTimestamp before n) ask r b e = either P (leb n 1) (at-whole r _ e) (goes-to r _ e (record { begun = refl; no-payload = refl }))
+  header-step MessagePayload ask r b e = refuses r guard

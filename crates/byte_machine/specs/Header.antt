@@ -9,6 +9,7 @@ use Rattle.chunk_header.specs.Table.{typeOf, indexOf, fieldLength}
 use Rattle.chunk_meaning.specs.Meaning.{firstTime, laterRefusal, firstRefusal}
 use Rattle.chunk_meaning.specs.Stored.{timed}
 use Rattle.byte_machine.specs.Reader.{Reader, Stage, InitialTimestamp, MessageLength, MessageTypeId, MessageStreamId, ExtendedTimestamp, MessagePayload, Stepped, at, current, ended, go, headed, reader, refuse, unfinished}
+use Rattle.byte_machine.specs.Setting.{Setting}
 
 -- the payload of a chunk: "the smaller of the chunk size and what the message still lacks". A message of no bytes ends here
 unfoldable pub opens : (size : ℕ) → Reader → (got : ℕ) → Stepped
@@ -18,14 +19,14 @@ opens size r got =
     (go (reader MessagePayload (current (c .format) (c .place) (c .before) (c .header) (min size (c .header .«message_length» - got))) (unfinished (r .message .id) got)))
 
 -- a header that is whole, extended time included, with the number that it says of the time
-unfoldable pub whole : (room size : ℕ) → Reader → (time : ℕ) → Stepped
-whole room size r time =
+unfoldable pub whole : Setting → Reader → (time : ℕ) → Stepped
+whole setting r time =
     let c = r .chunk in
-    let k = firstRefusal (c .format) (c .header) time room in
+    let k = firstRefusal (c .format) (c .header) time (setting .room) in
     let j = laterRefusal (c .format) (c .before) (c .header) time in
     cond (eqb (r .message .id) 0)
-    (cond (eqb k 0) (opens size (headed r (timed (c .header) (firstTime (c .format) (c .before .timestamp .value) time))) 0) (refuse r k))
-    (cond (eqb j 0) (opens size (headed r (timed (c .header) (c .before .timestamp .value))) (r .message .got)) (refuse r j))
+    (cond (eqb k 0) (opens (setting .size) (headed r (timed (c .header) (firstTime (c .format) (c .before .timestamp .value) time))) 0) (refuse r k))
+    (cond (eqb j 0) (opens (setting .size) (headed r (timed (c .header) (c .before .timestamp .value))) (r .message .got)) (refuse r j))
 
 -- how many bytes a field has in the chunk at hand
 abbrev pub lacks : Reader → HeaderField → ℕ
@@ -43,18 +44,18 @@ abbrev pub fieldNext : Reader → HeaderField → Stepped → Stepped
 fieldNext r field after = cond (eqb (lacks r field) 0) after (go (at r (stageOf field (lacks r field))))
 
 -- the extended time, "a time field of 16777215 means that a 4-byte extended time follows the header"
-unfoldable pub extendedNext : (room size : ℕ) → Reader → Stepped
-extendedNext room size r =
-    cond (eqb (r .chunk .header .«timestamp_field») maxField) (go (at r (ExtendedTimestamp 0 4))) (whole room size r (r .chunk .header .«timestamp_field»))
+unfoldable pub extendedNext : Setting → Reader → Stepped
+extendedNext setting r =
+    cond (eqb (r .chunk .header .«timestamp_field») maxField) (go (at r (ExtendedTimestamp 0 4))) (whole setting r (r .chunk .header .«timestamp_field»))
 
-unfoldable pub streamNext : (room size : ℕ) → Reader → Stepped
-streamNext room size r = fieldNext r StreamId (extendedNext room size r)
+unfoldable pub streamNext : Setting → Reader → Stepped
+streamNext setting r = fieldNext r StreamId (extendedNext setting r)
 
-unfoldable pub typeNext : (room size : ℕ) → Reader → Stepped
-typeNext room size r = fieldNext r TypeId (streamNext room size r)
+unfoldable pub typeNext : Setting → Reader → Stepped
+typeNext setting r = fieldNext r TypeId (streamNext setting r)
 
-unfoldable pub lengthNext : (room size : ℕ) → Reader → Stepped
-lengthNext room size r = fieldNext r Length (typeNext room size r)
+unfoldable pub lengthNext : Setting → Reader → Stepped
+lengthNext setting r = fieldNext r Length (typeNext setting r)
 
-unfoldable pub timestampNext : (room size : ℕ) → Reader → Stepped
-timestampNext room size r = fieldNext r Timestamp (lengthNext room size r)
+unfoldable pub timestampNext : Setting → Reader → Stepped
+timestampNext setting r = fieldNext r Timestamp (lengthNext setting r)

@@ -3,3 +3,5 @@ pub mod Payload
 pub mod Reader
 pub mod Rows
 pub mod Step
+pub mod Setting
+pub mod Look

@@ -76,7 +76,7 @@ module _ (d : Decoder) (c : Chunk) (reached : Reached d) (k : basicRefused d c �
 
   module _ (j : headerRefused d c ≡ 0) where
     -- inside a message the chunk says its length, which is more than what has come and fits the room
-    pub length-inside : d .reader .message .id ≢ 0 → (d .reader .message .got < header d c .«message_length») × (header d c .«message_length» ≤ d .room)
+    pub length-inside : d .reader .message .id ≢ 0 → (d .reader .message .got < header d c .«message_length») × (header d c .«message_length» ≤ d .setting .room)
     length-inside m =
         let o = own-stream m in
         let h : find (d .rows) (c .id) < 64 = rw (o .0) at (reached .sound .begun m) in
@@ -94,10 +94,10 @@ module _ (d : Decoder) (c : Chunk) (reached : Reached d) (k : basicRefused d c �
     within : Within d c
     within some = by-message (eqb (d .reader .message .id) 0) refl
       where
-        by-message : (t : Bool) → eqb (d .reader .message .id) 0 ≡ t → (0 < left d c) × (got d c + left d c ≤ d .room)
+        by-message : (t : Bool) → eqb (d .reader .message .id) 0 ≡ t → (0 < left d c) × (got d c + left d c ≤ d .setting .room)
         by-message true e =
-            let f : firstRefusal (formatFor (c .header)) (header d c) (says (c .extended) (header d c)) (d .room) ≡ 0 = rw e at j in
-            let r = first-fits (formatFor (c .header)) (header d c) (says (c .extended) (header d c)) (d .room) f in
+            let f : firstRefusal (formatFor (c .header)) (header d c) (says (c .extended) (header d c)) (d .setting .room) ≡ 0 = rw e at j in
+            let r = first-fits (formatFor (c .header)) (header d c) (says (c .extended) (header d c)) (d .setting .room) f in
             rw e (omega (arith, reached .some, some), omega (arith, r))
         by-message false e =
             let i = length-inside (eqb-false (d .reader .message .id) 0 e) in

@@ -17,7 +17,7 @@ use Rattle.decoding.proofs.Runs.{next-closed, next-runs, next-short}
 
 -- a decoder that is closed with this number, and otherwise the same
 abbrev pub closing : Decoder → ℕ → Decoder
-closing d k = record { room = d .room; «max_chunk_size» = d .«max_chunk_size»; closed = k; reader = d .reader; rows = d .rows }
+closing d k = record { setting = d .setting; closed = k; reader = d .reader; rows = d .rows }
 
 -- a byte that is refused
 pub refusal-only-closes : (d : Decoder) (b k : ℕ) → stepOf d b .event ≡ Refuse k → after d (stepOf d b) ≡ closing d k
@@ -64,17 +64,17 @@ run-only-closes a x d payload n k h = by-answer (run a d payload n .answer) refl
 pub call-only-closes : (d : Decoder) (a : List ℕ) (x : ℕ) (payload : List ℕ) (k : ℕ)
     → next d (a ++ (x ∷ [])) payload .answer ≡ refused k (length a + 1)
     → next d (a ++ (x ∷ [])) payload .deserializer ≡ closing (next d a payload .deserializer) k
-call-only-closes d a x payload k h = by-cases (eqb (d .closed) 0) (ltb (length payload) (d .room)) refl refl
+call-only-closes d a x payload k h = by-cases (eqb (d .closed) 0) (ltb (length payload) (d .setting .room)) refl refl
   where
     none-used : {j : ℕ} → next d (a ++ (x ∷ [])) payload .answer ≡ refused j 0 → ⊥
     none-used e = let q : 0 ≡ length a + 1 = cc in omega (arith, q)
 
-    by-cases : (t u : Bool) → eqb (d .closed) 0 ≡ t → ltb (length payload) (d .room) ≡ u
+    by-cases : (t u : Bool) → eqb (d .closed) 0 ≡ t → ltb (length payload) (d .setting .room) ≡ u
         → next d (a ++ (x ∷ [])) payload .deserializer ≡ closing (next d a payload .deserializer) k
     by-cases false u p q = absurd (none-used {j = d .closed} (rw (next-closed d (a ++ (x ∷ [])) payload (eqb-false _ _ p))))
     by-cases true true p q = absurd (none-used {j = 7} (rw (next-short d (a ++ (x ∷ [])) payload (eqb-true _ _ p) (ltb-true _ _ q))))
     by-cases true false p q =
-        let f = next-runs d (a ++ (x ∷ [])) payload (eqb-true _ _ p) (ltb-false (length payload) (d .room) q) in
-        let g = next-runs d a payload (eqb-true _ _ p) (ltb-false (length payload) (d .room) q) in
+        let f = next-runs d (a ++ (x ∷ [])) payload (eqb-true _ _ p) (ltb-false (length payload) (d .setting .room) q) in
+        let g = next-runs d a payload (eqb-true _ _ p) (ltb-false (length payload) (d .setting .room) q) in
         let z : length a + 1 ≡ 0 + length a + 1 = omega arith in
         rw (f, g) (run-only-closes a x d payload 0 k ((rw f at h) ∙ ap (refused k) z))

@@ -62,13 +62,13 @@ run-shift (x ∷ b) d payload m n =
 
 -- what a run leaves as it was
 pub record Kept (d : Decoder) (payload : List ℕ) (o : Outcome) : Type 0 where
-  pub room : o .deserializer .room ≡ d .room
+  pub room : o .deserializer .setting .room ≡ d .setting .room
   pub closed : (m : ℕ) → o .answer ≡ more m → o .deserializer .closed ≡ d .closed
   pub long : length (o .payload) ≡ length payload
 
 pub long-writes : (d : Decoder) (payload : List ℕ) (x : ℕ) → length (writes d payload x) ≡ length payload
 unfolding writes
-long-writes d payload x = by-cases (inPayload (d .reader .stage)) (pays (d .room) (d .reader))
+long-writes d payload x = by-cases (inPayload (d .reader .stage)) (pays (d .setting .room) (d .reader))
   where
     by-cases : (t u : Bool) → length (cond t (cond u (set payload (d .reader .message .got) x) payload) payload) ≡ length payload
     by-cases true true = simp length-set
@@ -82,7 +82,7 @@ message-not-more h = absurd (let z : _≡_ {A = ℕ} 0 1 = cc in omega arith)
 pub refused-not-more : {A : Type 0} {number used m : ℕ} → refused number used ≡ more m → A
 refused-not-more h = absurd (let z : _≡_ {A = ℕ} 0 1 = cc in omega arith)
 
-end-kept : (e : Event) (d d′ : Decoder) (payload payload′ : List ℕ) (n : ℕ) (o : Outcome) → d′ .room ≡ d .room
+end-kept : (e : Event) (d d′ : Decoder) (payload payload′ : List ℕ) (n : ℕ) (o : Outcome) → d′ .setting .room ≡ d .setting .room
     → d′ .closed ≡ closes e (d .closed)
     → length payload′ ≡ length payload → Kept d′ payload′ o → Kept d payload (end e d′ payload′ n o)
 end-kept Go d d′ payload payload′ n o p q r k = record { room = k .room ∙ p; closed = λ m e. k .closed m e ∙ q; long = k .long ∙ r }
@@ -98,13 +98,13 @@ run-kept (x ∷ a) d payload n =
     (run-kept a (after d (stepOf d x)) (writes d payload x) (n + 1))
 
 -- a call that asks for more has run
-pub has-run : (d : Decoder) (a payload : List ℕ) (m : ℕ) → next d a payload .answer ≡ more m → (d .room ≤ length payload) × (d .closed ≡ 0)
+pub has-run : (d : Decoder) (a payload : List ℕ) (m : ℕ) → next d a payload .answer ≡ more m → (d .setting .room ≤ length payload) × (d .closed ≡ 0)
 unfolding next
-has-run d a payload m = by-cases (eqb (d .closed) 0) (ltb (length payload) (d .room)) refl refl
+has-run d a payload m = by-cases (eqb (d .closed) 0) (ltb (length payload) (d .setting .room)) refl refl
   where
-    by-cases : (t u : Bool) → eqb (d .closed) 0 ≡ t → ltb (length payload) (d .room) ≡ u
+    by-cases : (t u : Bool) → eqb (d .closed) 0 ≡ t → ltb (length payload) (d .setting .room) ≡ u
         → cond (not t) (outcome (refused (d .closed) 0) d payload) (cond u (outcome (refused 7 0) d payload) (run a d payload 0)) .answer ≡ more m
-        → (d .room ≤ length payload) × (d .closed ≡ 0)
+        → (d .setting .room ≤ length payload) × (d .closed ≡ 0)
     by-cases true true e f h = refused-not-more h
     by-cases true false e f h = (ltb-false _ _ f, eqb-true _ _ e)
     by-cases false u e f h = refused-not-more h
@@ -126,7 +126,7 @@ feed-append d a b payload m h =
 -- a call that answers otherwise answers the same whatever follows: what it left unread is offered again by the next call
 pub feed-answered : (d : Decoder) (a b payload : List ℕ) → ((m : ℕ) → next d a payload .answer ≢ more m) → next d (a ++ b) payload ≡ next d a payload
 unfolding next
-feed-answered d a b payload = by-cases (eqb (d .closed) 0) (ltb (length payload) (d .room))
+feed-answered d a b payload = by-cases (eqb (d .closed) 0) (ltb (length payload) (d .setting .room))
   where
     answered : (o : Outcome) → ((m : ℕ) → o .answer ≢ more m) → goOn b o ≡ o
     answered o h = by-answer (o .answer) refl

@@ -31,13 +31,13 @@ told-by d size P refuses takes =
     (λ b. takes (not-not (equal (d .closed) 0) opened) (not-not (itself (between (d .reader))) b)))))
 
 pub next-by : (d : Decoder) (input payload : List ℕ) (P : Outcome → Type 0) → (d .closed ≢ 0 → P (outcome (refused (d .closed) 0) d payload))
-    → (length payload < d .room → P (outcome (refused 7 0) d payload))
-    → (d .closed ≡ 0 → d .room ≤ length payload → P (run input d payload 0))
+    → (length payload < d .setting .room → P (outcome (refused 7 0) d payload))
+    → (d .closed ≡ 0 → d .setting .room ≤ length payload → P (run input d payload 0))
     → P (next d input payload)
 unfolding next
 next-by d input payload P closed short runs =
     tested P (not-decides (equal (d .closed) 0)) closed
-    (λ opened. tested P (less (length payload) (d .room)) short (λ long. runs (not-not (equal (d .closed) 0) opened) (omega (arith, long))))
+    (λ opened. tested P (less (length payload) (d .setting .room)) short (λ long. runs (not-not (equal (d .closed) 0) opened) (omega (arith, long))))
 
 -- a size that is taken holds from then on and changes nothing else; it comes between messages
 refused-not-taken : {A : Type 0} {k : ℕ} → no-size k ≡ taken → A

@@ -14,6 +14,8 @@ use Rattle.byte_machine.specs.Reader.{Reader, Stage, Stepped, at, go, inPayload
 use Rattle.decoding.specs.Call.{Outcome, after, run}
 use Rattle.byte_machine.specs.Step.{gathered, stepped}
 use Rattle.decoding.proofs.Runs.{holding, run-header, then}
+use Rattle.byte_machine.specs.Setting.{Setting}
+use Rattle.byte_machine.specs.Look.{look}
 
 -- a number of at most three digits, and one digit more
 three-digits : (j x : ℕ) → x < 256 ^ j → j ≤ 3 → x % 2 ^ 24 ≡ x
@@ -40,16 +42,16 @@ pub record Reaches (run′ : Outcome) (d : Decoder) (step : Reader → Stepped) 
   pub reached : run′ ≡ then (holding d held) (step (at r stage)) payload n rest
 
 -- a field at some stage: what its last byte does with the number, and what any byte before it does
-module _ (mk : ℕ → ℕ → Stage) (done : ℕ → ℕ → Reader → ℕ → Stepped) (header : (x k : ℕ) → inPayload (mk x k) ≡ false)
-    (steps : (x k room size : ℕ) (rows : List ℕ) (r : Reader) (b : ℕ)
-    → stepped (mk x k) room size rows r b ≡ cond (leb k 1) (done room size r (gathered x b)) (go (at r (mk (gathered x b) (k - 1))))) (d : Decoder) (r : Reader) (payload rest : List ℕ) where
+module _ (mk : ℕ → ℕ → Stage) (done : Setting → Reader → ℕ → Stepped) (header : (x k : ℕ) → inPayload (mk x k) ≡ false)
+    (steps : (x k : ℕ) (setting : Setting) (rows : List ℕ) (r : Reader) (b : ℕ)
+    → stepped (mk x k) setting (look rows) r b ≡ cond (leb k 1) (done setting r (gathered x b)) (go (at r (mk (gathered x b) (k - 1))))) (d : Decoder) (r : Reader) (payload rest : List ℕ) where
   -- what the last byte of the field does with its number
   abbrev ends : ℕ → Reader → Stepped
-  ends number r′ = done (d .room) (d .«max_chunk_size») r′ number
+  ends number r′ = done (d .setting) r′ number
 
   last-byte : (b x n : ℕ) → x % 2 ^ 24 ≡ x → run (b ∷ rest) (holding d (at r (mk x 1))) payload n ≡ then (holding d (at r (mk x 1))) (ends (x * 256 + b) (at r (mk x 1))) payload (n + 1) rest
   unfolding after
-  last-byte b x n e = run-header b rest (holding d (at r (mk x 1))) payload n (header x 1) ∙ (rw (steps x 1 (d .room) (d .«max_chunk_size») (d .rows) (at r (mk x 1)) b, e))
+  last-byte b x n e = run-header b rest (holding d (at r (mk x 1))) payload n (header x 1) ∙ (rw (steps x 1 (d .setting) (d .rows) (at r (mk x 1)) b, e))
 
   byte-before : (b x k n : ℕ) (bs : List ℕ) → x % 2 ^ 24 ≡ x
       → run (b ∷ bs) (holding d (at r (mk x (suc (suc k))))) payload n ≡ run bs (holding d (at r (mk (x * 256 + b) (suc k)))) payload (n + 1)
@@ -57,7 +59,7 @@ module _ (mk : ℕ → ℕ → Stage) (done : ℕ → ℕ → Reader → ℕ →
   byte-before b x k n bs e =
       let l : suc (suc k) - 1 ≡ suc k = omega arith in
       run-header b bs (holding d (at r (mk x (suc (suc k))))) payload n (header x (suc (suc k)))
-      ∙ (rw (steps x (suc (suc k)) (d .room) (d .«max_chunk_size») (d .rows) (at r (mk x (suc (suc k)))) b, lt-leb (suc (suc k)) 1 (omega arith), e, l))
+      ∙ (rw (steps x (suc (suc k)) (d .setting) (d .rows) (at r (mk x (suc (suc k)))) b, lt-leb (suc (suc k)) 1 (omega arith), e, l))
 
   pub field : (b : ℕ) (bs : List ℕ) (j x n : ℕ) → Bytes (b ∷ bs) → x < 256 ^ j → j + length bs ≤ 3
       → Reaches (run (b ∷ (bs ++ rest)) (holding d (at r (mk x (suc (length bs))))) payload n) d (ends (gather x (b ∷ bs))) r payload (n + 1 + length bs) rest

@@ -32,6 +32,8 @@ use Rattle.byte_machine.proofs.Passing.{tested, at-stream, at-type, at-length, 
 use Rattle.byte_machine.proofs.RowLaws.{Distinct, find-distinct, id-put, put-number}
 use Rattle.decoding.proofs.Sound.{Leaves, Sound, csid-used, in-payload-past, past}
 use Rattle.fields.proofs.Tests.{clash, never}
+use Rattle.byte_machine.specs.Setting.{Setting}
+use Rattle.byte_machine.specs.Look.{look}
 
 -- the fields that a chunk inside a message has only in a full header
 abbrev pub early : Stage → Bool
@@ -188,7 +190,13 @@ fits-at room L r stage later full p f = record {
   paying = λ q. clash p q;
 }
 
-module _ (room size L : ℕ) (some : 0 < size) where
+module _ (setting : Setting) (L : ℕ) (some : 0 < setting .size) where
+  abbrev room : ℕ
+  room = setting .room
+
+  abbrev size : ℕ
+  size = setting .size
+
   go-fits : (r : Reader) → Fits room L r → Fitting room L (r .message .id) (go r)
   go-fits r f = record { fits = f; same = λ e n. refl; own = λ e n. never e; guard = go-is-not }
 
@@ -224,7 +232,7 @@ module _ (room size L : ℕ) (some : 0 < size) where
         paying = λ q. record { some = omega arith; ends = omega arith; fits = h; own = own };
       }))
 
-  whole-fits : (r : Reader) (time : ℕ) → Fits room L r → (r .message .id ≢ 0 → Later L r) → Fitting room L (r .message .id) (whole room size r time)
+  whole-fits : (r : Reader) (time : ℕ) → Fits room L r → (r .message .id ≢ 0 → Later L r) → Fitting room L (r .message .id) (whole setting r time)
   unfolding whole
   whole-fits r time f later =
       let c = r .chunk in
@@ -257,7 +265,7 @@ module _ (room size L : ℕ) (some : 0 < size) where
       (λ m. later-headed L r (timed (c .header) (c .before .timestamp .value)) refl l))
       (λ z. refuse-fits r j (later-small (c .format) (c .before) (c .header) time) f))
 
-  extended-fits : (r : Reader) → Fits room L r → (r .message .id ≢ 0 → Later L r) → Fitting room L (r .message .id) (extendedNext room size r)
+  extended-fits : (r : Reader) → Fits room L r → (r .message .id ≢ 0 → Later L r) → Fitting room L (r .message .id) (extendedNext setting r)
   unfolding extendedNext
   extended-fits r f later =
       tested (Fitting room L (r .message .id)) (eqb (r .chunk .header .«timestamp_field») maxField)
@@ -274,17 +282,17 @@ module _ (room size L : ℕ) (some : 0 < size) where
       go-fits (at r stage)
       (fits-at room L r stage (λ q. later) (λ q n. has-field (r .chunk .format) field (later n .empty) e) (no-payload field (lacks r field)) f)
 
-  stream-fits : (r : Reader) → Fits room L r → (r .message .id ≢ 0 → Later L r) → Fitting room L (r .message .id) (streamNext room size r)
-  stream-fits r f later = at-stream (Fitting room L (r .message .id)) room size r (stops-fit r f later) (extended-fits r f later)
+  stream-fits : (r : Reader) → Fits room L r → (r .message .id ≢ 0 → Later L r) → Fitting room L (r .message .id) (streamNext setting r)
+  stream-fits r f later = at-stream (Fitting room L (r .message .id)) setting r (stops-fit r f later) (extended-fits r f later)
 
-  type-fits : (r : Reader) → Fits room L r → (r .message .id ≢ 0 → Later L r) → Fitting room L (r .message .id) (typeNext room size r)
-  type-fits r f later = at-type (Fitting room L (r .message .id)) room size r (stops-fit r f later) (extended-fits r f later)
+  type-fits : (r : Reader) → Fits room L r → (r .message .id ≢ 0 → Later L r) → Fitting room L (r .message .id) (typeNext setting r)
+  type-fits r f later = at-type (Fitting room L (r .message .id)) setting r (stops-fit r f later) (extended-fits r f later)
 
-  length-fits : (r : Reader) → Fits room L r → (r .message .id ≢ 0 → Later L r) → Fitting room L (r .message .id) (lengthNext room size r)
-  length-fits r f later = at-length (Fitting room L (r .message .id)) room size r (stops-fit r f later) (extended-fits r f later)
+  length-fits : (r : Reader) → Fits room L r → (r .message .id ≢ 0 → Later L r) → Fitting room L (r .message .id) (lengthNext setting r)
+  length-fits r f later = at-length (Fitting room L (r .message .id)) setting r (stops-fit r f later) (extended-fits r f later)
 
-  timestamp-fits : (r : Reader) → Fits room L r → (r .message .id ≢ 0 → Later L r) → Fitting room L (r .message .id) (timestampNext room size r)
-  timestamp-fits r f later = at-timestamp (Fitting room L (r .message .id)) room size r (stops-fit r f later) (extended-fits r f later)
+  timestamp-fits : (r : Reader) → Fits room L r → (r .message .id ≢ 0 → Later L r) → Fitting room L (r .message .id) (timestampNext setting r)
+  timestamp-fits r f later = at-timestamp (Fitting room L (r .message .id)) setting r (stops-fit r f later) (extended-fits r f later)
 
   -- a byte of payload
   paused-fits : (r : Reader) (got m : ℕ) → r .chunk .place < 64 → got < r .chunk .header .«message_length» → r .chunk .header .«message_length» ≤ room
@@ -326,7 +334,7 @@ module _ (room size L : ℕ) (some : 0 < size) where
 
   -- a byte of a header past its basic header
   byte-fits : (stage : Stage) (rows : List ℕ) (r : Reader) (b : ℕ) → r .stage ≡ stage → past stage ≡ true → inPayload stage ≡ false → Fits room L r
-      → Fitting room L (r .message .id) (stepped stage room size rows r b)
+      → Fitting room L (r .message .id) (stepped stage setting (look rows) r b)
   unfolding timestampField lengthField typeField streamField extendedField
   byte-fits AtCsid rows r b e p q f = never p
   byte-fits (CsidSecond a) rows r b e p q f = never p
@@ -378,11 +386,11 @@ not-not m h = by-cases (eqb m 0) refl
     by-cases false e = absurd (h (eqb-false m 0 e))
 
 -- the last byte of a basic header
-named-fits : (room size : ℕ) (rows : List ℕ) (r : Reader) (format : ChunkHeaderFormat) (id : ℕ) → 0 < size → id ≢ 0 → past (r .stage) ≡ false → Sound rows r
-    → Fits room (lengthOf rows (r .message .id)) r
-    → Fitting room (lengthOf rows (r .message .id)) (r .message .id) (named room size rows r format id)
+named-fits : (setting : Setting) (rows : List ℕ) (r : Reader) (format : ChunkHeaderFormat) (id : ℕ) → 0 < setting .size → id ≢ 0 → past (r .stage) ≡ false → Sound rows r
+    → Fits (setting .room) (lengthOf rows (r .message .id)) r
+    → Fitting (setting .room) (lengthOf rows (r .message .id)) (r .message .id) (named setting (look rows id) r format id)
 unfolding named
-named-fits room size rows r format id some n p s f =
+named-fits setting rows r format id some n p s f =
     by-cases (ltb (find rows id) 64) refl
     (basicRefusal format (ltb (find rows id) 64) (ltb (free rows) 64) (not (eqb (r .message .id) 0)) (eqb (r .message .id) id)) refl
   where
@@ -397,10 +405,10 @@ named-fits room size rows r format id some n p s f =
 
     by-cases : (u : Bool) → ltb (find rows id) 64 ≡ u → (k : ℕ)
         → basicRefusal format u (ltb (free rows) 64) (not (eqb (r .message .id) 0)) (eqb (r .message .id) id) ≡ k
-        → Fitting room (lengthOf rows (r .message .id)) (r .message .id)
-        (cond (eqb k 0) (cond u (known room size r format (rowAt rows (find rows id)) (find rows id)) (claims r format id (free rows))) (refuse r k))
+        → Fitting (setting .room) (lengthOf rows (r .message .id)) (r .message .id)
+        (cond (eqb k 0) (cond u (known setting r format (rowAt rows (find rows id)) (find rows id)) (claims r format id (free rows))) (refuse r k))
     by-cases true g k e =
-        tested (Fitting room (lengthOf rows (r .message .id)) (r .message .id)) (eqb k 0)
+        tested (Fitting (setting .room) (lengthOf rows (r .message .id)) (r .message .id)) (eqb k 0)
         (λ z.
         let row = rowAt rows (find rows id) in
         let r′ = reader (r .stage) (current format (find rows id) row row 0) (r .message) in
@@ -409,7 +417,7 @@ named-fits room size rows r format id some n p s f =
         let same : getD rows (6 * find rows id + 3) 0 ≡ lengthOf rows (r .message .id) = rw (t .0) in
         record { before = same; empty = t .1; short = λ y. same }
         in
-        timestamp-fits room size (lengthOf rows (r .message .id)) some r′
+        timestamp-fits setting (lengthOf rows (r .message .id)) some r′
         (record {
           got = f .got;
           room-for = f .room-for;
@@ -418,9 +426,9 @@ named-fits room size rows r format id some n p s f =
           paying = λ q. clash p (in-payload-past (r .stage) q);
         })
         later)
-        (λ z. refuse-fits room size (lengthOf rows (r .message .id)) some r k (small true e) f)
+        (λ z. refuse-fits setting (lengthOf rows (r .message .id)) some r k (small true e) f)
     by-cases false g k e =
-        tested (Fitting room (lengthOf rows (r .message .id)) (r .message .id)) (eqb k 0)
+        tested (Fitting (setting .room) (lengthOf rows (r .message .id)) (r .message .id)) (eqb k 0)
         (λ z.
         let none = ltb-false (find rows id) 64 g in
         let outside : r .message .id ≢ 0 → ⊥ = λ m.
@@ -430,12 +438,12 @@ named-fits room size rows r format id some n p s f =
         omega arith
         in
         record {
-          fits = quiet-fits room _ _ (not-not (r .message .id) outside) refl;
+          fits = quiet-fits (setting .room) _ _ (not-not (r .message .id) outside) refl;
           same = λ y m. refl;
           own = λ y m. absurd (outside m);
           guard = go-is-not;
         })
-        (λ z. refuse-fits room size (lengthOf rows (r .message .id)) some r k (small false e) f)
+        (λ z. refuse-fits setting (lengthOf rows (r .message .id)) some r k (small false e) f)
 
 -- so the length that a step leaves is the one in the table
 pub fitting-fits : (room : ℕ) (rows : List ℕ) (m : ℕ) (s : Stepped) → length rows ≡ 384 → Leaves rows s → Fitting room (lengthOf rows m) m s
@@ -460,48 +468,48 @@ fitting-fits room rows m s l = by-cases (ltb (s .place) 64) refl
         rw e (fits-same room (lengthOf rows m) (lengthOf rows (s .reader .message .id)) (s .reader) (λ n. rw (f .same e n)) g)
 
 -- a byte of a basic header
-basic-fits : (room size : ℕ) (rows : List ℕ) (r : Reader) (bytes : List ℕ) (kept : Stage) → past (r .stage) ≡ false → past kept ≡ false
-    → 0 < size
+basic-fits : (setting : Setting) (rows : List ℕ) (r : Reader) (bytes : List ℕ) (kept : Stage) → past (r .stage) ≡ false → past kept ≡ false
+    → 0 < setting .size
     → Sound rows r
-    → Fits room (lengthOf rows (r .message .id)) r
-    → Fitting room (lengthOf rows (r .message .id)) (r .message .id) (basic room size rows r bytes kept)
-basic-fits room size rows r bytes kept p q some s f =
+    → Fits (setting .room) (lengthOf rows (r .message .id)) r
+    → Fitting (setting .room) (lengthOf rows (r .message .id)) (r .message .id) (basic setting (look rows) r bytes kept)
+basic-fits setting rows r bytes kept p q some s f =
     let L = lengthOf rows (r .message .id) in
     let format = formatOf (getD bytes 0 0) in
-    csid-used (λ c. Fitting room (lengthOf rows (r .message .id)) (r .message .id) (basicBy c room size rows r format kept)) bytes
-    (go-fits room size L some (at r kept) (record {
+    csid-used (λ c. Fitting (setting .room) (lengthOf rows (r .message .id)) (r .message .id) (basicBy c setting (look rows) r format kept)) bytes
+    (go-fits setting L some (at r kept) (record {
       got = f .got;
       room-for = f .room-for;
       later = λ z n. clash q z;
       full = λ z n. clash q (early-past kept z);
       paying = λ z. clash q (in-payload-past kept z);
     }))
-    (λ id n. named-fits room size rows r format id some n p s f)
+    (λ id n. named-fits setting rows r format id some n p s f)
 
 -- a byte, by the stage
-stepped-fits : (stage : Stage) (room size : ℕ) (rows : List ℕ) (r : Reader) (b : ℕ) → r .stage ≡ stage → inPayload stage ≡ false → 0 < size → Sound rows r
-    → Fits room (lengthOf rows (r .message .id)) r
-    → Fitting room (lengthOf rows (r .message .id)) (r .message .id) (stepped stage room size rows r b)
-stepped-fits AtCsid room size rows r b e p some s f = basic-fits room size rows r (b ∷ []) (CsidSecond b) (rw e) refl some s f
-stepped-fits (CsidSecond a) room size rows r b e p some s f = basic-fits room size rows r (a ∷ b ∷ []) (CsidThird a b) (rw e) refl some s f
-stepped-fits (CsidThird a c) room size rows r b e p some s f = basic-fits room size rows r (a ∷ c ∷ b ∷ []) (CsidThird a c) (rw e) refl some s f
-stepped-fits (InitialTimestamp before lacks) room size rows r b e p some s f = byte-fits room size _ some (InitialTimestamp before lacks) rows r b e refl refl f
-stepped-fits (MessageLength before lacks) room size rows r b e p some s f = byte-fits room size _ some (MessageLength before lacks) rows r b e refl refl f
-stepped-fits MessageTypeId room size rows r b e p some s f = byte-fits room size _ some MessageTypeId rows r b e refl refl f
-stepped-fits (MessageStreamId before lacks) room size rows r b e p some s f = byte-fits room size _ some (MessageStreamId before lacks) rows r b e refl refl f
-stepped-fits (ExtendedTimestamp before lacks) room size rows r b e p some s f = byte-fits room size _ some (ExtendedTimestamp before lacks) rows r b e refl refl f
-stepped-fits MessagePayload room size rows r b e p some s f = never (sym p)
+stepped-fits : (stage : Stage) (setting : Setting) (rows : List ℕ) (r : Reader) (b : ℕ) → r .stage ≡ stage → inPayload stage ≡ false → 0 < setting .size → Sound rows r
+    → Fits (setting .room) (lengthOf rows (r .message .id)) r
+    → Fitting (setting .room) (lengthOf rows (r .message .id)) (r .message .id) (stepped stage setting (look rows) r b)
+stepped-fits AtCsid setting rows r b e p some s f = basic-fits setting rows r (b ∷ []) (CsidSecond b) (rw e) refl some s f
+stepped-fits (CsidSecond a) setting rows r b e p some s f = basic-fits setting rows r (a ∷ b ∷ []) (CsidThird a b) (rw e) refl some s f
+stepped-fits (CsidThird a c) setting rows r b e p some s f = basic-fits setting rows r (a ∷ c ∷ b ∷ []) (CsidThird a c) (rw e) refl some s f
+stepped-fits (InitialTimestamp before lacks) setting rows r b e p some s f = byte-fits setting _ some (InitialTimestamp before lacks) rows r b e refl refl f
+stepped-fits (MessageLength before lacks) setting rows r b e p some s f = byte-fits setting _ some (MessageLength before lacks) rows r b e refl refl f
+stepped-fits MessageTypeId setting rows r b e p some s f = byte-fits setting _ some MessageTypeId rows r b e refl refl f
+stepped-fits (MessageStreamId before lacks) setting rows r b e p some s f = byte-fits setting _ some (MessageStreamId before lacks) rows r b e refl refl f
+stepped-fits (ExtendedTimestamp before lacks) setting rows r b e p some s f = byte-fits setting _ some (ExtendedTimestamp before lacks) rows r b e refl refl f
+stepped-fits MessagePayload setting rows r b e p some s f = never (sym p)
 
-pub step-fits : (d : Decoder) (b : ℕ) → 0 < d .«max_chunk_size» → Sound (d .rows) (d .reader)
-    → Fits (d .room) (lengthOf (d .rows) (d .reader .message .id)) (d .reader)
-    → Fitting (d .room) (lengthOf (d .rows) (d .reader .message .id)) (d .reader .message .id) (stepOf d b)
+pub step-fits : (d : Decoder) (b : ℕ) → 0 < d .setting .size → Sound (d .rows) (d .reader)
+    → Fits (d .setting .room) (lengthOf (d .rows) (d .reader .message .id)) (d .reader)
+    → Fitting (d .setting .room) (lengthOf (d .rows) (d .reader .message .id)) (d .reader .message .id) (stepOf d b)
 unfolding stepOf
-step-fits d b some s f = by-cases (inPayload (d .reader .stage)) (pays (d .room) (d .reader)) refl refl
+step-fits d b some s f = by-cases (inPayload (d .reader .stage)) (pays (d .setting .room) (d .reader)) refl refl
   where
-    by-cases : (t u : Bool) → inPayload (d .reader .stage) ≡ t → pays (d .room) (d .reader) ≡ u
-        → Fitting (d .room) (lengthOf (d .rows) (d .reader .message .id)) (d .reader .message .id)
-        (cond t (cond u (landed (d .reader) 1) (refuse (d .reader) 255)) (stepped (d .reader .stage) (d .room) (d .«max_chunk_size») (d .rows) (d .reader) b))
+    by-cases : (t u : Bool) → inPayload (d .reader .stage) ≡ t → pays (d .setting .room) (d .reader) ≡ u
+        → Fitting (d .setting .room) (lengthOf (d .rows) (d .reader .message .id)) (d .reader .message .id)
+        (cond t (cond u (landed (d .reader) 1) (refuse (d .reader) 255)) (stepped (d .reader .stage) (d .setting) (look (d .rows)) (d .reader) b))
     by-cases true true e g =
-        landed-fits (d .room) (d .«max_chunk_size») _ some (d .reader) (s .owns (in-payload-past (d .reader .stage) e) .inside) e f
-    by-cases true false e g = clash g (paying-pays (d .room) _ (d .reader) (f .paying e))
-    by-cases false u e g = stepped-fits (d .reader .stage) (d .room) (d .«max_chunk_size») (d .rows) (d .reader) b refl e some s f
+        landed-fits (d .setting) _ some (d .reader) (s .owns (in-payload-past (d .reader .stage) e) .inside) e f
+    by-cases true false e g = clash g (paying-pays (d .setting .room) _ (d .reader) (f .paying e))
+    by-cases false u e g = stepped-fits (d .reader .stage) (d .setting) (d .rows) (d .reader) b refl e some s f

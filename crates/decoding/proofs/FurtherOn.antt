@@ -30,15 +30,14 @@ use Rattle.fields.proofs.Tests.{clash}
 
 module _ (d : Decoder) (input : List ℕ) (at place n : ℕ) (r : Row) (a : Amid d place r)
     (w : Next input at (r .id) (d .reader .message .got) (r .«message_length») n)
-    (left-is : n ≡ min (d .«max_chunk_size») (r .«message_length» - d .reader .message .got)) where
+    (left-is : n ≡ min (d .setting .size) (r .«message_length» - d .reader .message .got)) where
   abbrev c : Chunk
   c = record { form = one; id = r .id; header = type3; extended = absent; payload = take n (drop (at + 1) input) }
 
   -- the decoder after it
   abbrev pub gone-on : Decoder
   gone-on = record {
-    room = d .room;
-    «max_chunk_size» = d .«max_chunk_size»;
+    setting = d .setting;
     closed = d .closed;
     reader = reader Csid (current Empty place r r 0) (unfinished (r .id) (d .reader .message .got + n));
     rows = putRow (d .rows) place r;
@@ -121,7 +120,7 @@ stored-piece payload input start n at x y e f k h =
 -- the same where the rows hold the row already
 pub further-runs : (d : Decoder) (input payload : List ℕ) (at place n : ℕ) (r : Row) → Amid d place r → putRow (d .rows) place r ≡ d .rows
     → Next input at (r .id) (d .reader .message .got) (r .«message_length») n
-    → n ≡ min (d .«max_chunk_size») (r .«message_length» - d .reader .message .got)
+    → n ≡ min (d .setting .size) (r .«message_length» - d .reader .message .got)
     → run (drop at input) d payload at
     ≡ run (drop (at + 1 + n) input) (gone d place r (d .reader .message .got + n)) (sets payload (d .reader .message .got) (take n (drop (at + 1) input))) (at + 1 + n)
 further-runs d input payload at place n r a same w e = further-on d input at place n r a w e payload ∙ (rw same)
@@ -169,7 +168,7 @@ pub amid-at : (d : Decoder) (place : ℕ) → d .reader .stage ≡ Csid → 2 �
     → place ≡ find (d .rows) (d .reader .message .id)
     → place < 64
     → rowAt (d .rows) place .«timestamp_field» ≢ maxField
-    → rowAt (d .rows) place .«message_length» ≤ d .room
+    → rowAt (d .rows) place .«message_length» ≤ d .setting .room
     → Amid d place (rowAt (d .rows) place)
 amid-at d place s p q e f plain fits =
     let i : rowAt (d .rows) place .id ≡ d .reader .message .id = rw e (find-tells (d .rows) (d .reader .message .id) (rw e at f)) in

@@ -1,13 +1,13 @@
 -- A header that is all there does in one turn what its bytes do one by one: they are a chunk's head, which is read back.
 use Prim.Native.Nat.{ℕ, _+_, _-_, _*_, _%_, _^_, _≤_, _<_}
-use mathlib.Core.Path.{_≡_, refl, sym, ap, _∙_}
+use mathlib.Core.Path.{_≡_, refl, ap, _∙_}
 use mathlib.Core.Logic.{_≢_}
 use mathlib.Core.Bool.{Bool, true, false, cond, not}
 use mathlib.Core.List.{List, [], _++_, append-assoc}
 use native.Mathlib.Omega.{arith}
 use lib.Dec.{eqb, ltb}
 use lib.ListN.{length, take, drop, getD, length-drop, length-take, take-append-drop}
-use lib.Seq.{drop-cons, drop-drop, take-all}
+use lib.Seq.{drop-cons, drop-drop}
 use borrow.Author.Tests.{lt-ltb}
 use Rattle.fields.specs.Endian.{Bytes, bigEndian, gather, littleEndian, number, swapped}
 use Rattle.fields.proofs.Endian.{number-lt}
@@ -18,12 +18,11 @@ use Rattle.chunk_header.specs.Layout.{Chunk, absent, format as type-number, hea
 use Rattle.chunk_header.specs.Table.{fieldLength, headerLength, typeOf}
 use Rattle.chunk_header.proofs.Table.{type-of-byte}
 use Rattle.decoding.specs.Decoder.{Decoder}
-use Rattle.byte_machine.specs.Reader.{Stage, Csid, CsidSecond, CsidThird, InitialTimestamp, MessageLength, MessageTypeId, MessageStreamId, ExtendedTimestamp, MessagePayload, inPayload, atStart}
+use Rattle.byte_machine.specs.Reader.{Csid}
 use Rattle.chunk_meaning.specs.Stored.{Row}
 use Rattle.decoding.specs.Call.{run}
 use Rattle.decoding.specs.Chunk.{HeadFits, basicRefused, carried, formatFor, got, header, headerRefused, row}
 use Rattle.decoding.specs.Head.{Known, headerIn, refusalOf, settledBy}
-use Rattle.byte_machine.specs.Step.{stepped}
 use Rattle.byte_machine.specs.Header.{opens}
 use Rattle.chunk_meaning.specs.Meaning.{basicRefusal, firstRefusal, laterRefusal}
 use Rattle.chunk_header.specs.Limits.{maxField}
@@ -31,8 +30,8 @@ use Rattle.byte_machine.specs.Rows.{find, free, rowAt}
 use Rattle.fields.proofs.Swapped.{little-take, swapped-small}
 use Rattle.decoding.proofs.ReadsBack.{basicOf, claiming, headOf, opened, settled}
 use Rattle.byte_machine.proofs.RowLaws.{find-tells}
-use Rattle.decoding.proofs.Runs.{run-header, then}
-use Rattle.fields.proofs.Tests.{clash, never}
+use Rattle.decoding.proofs.Runs.{then}
+use Rattle.fields.proofs.Tests.{clash}
 
 -- one byte as a number
 pub one-number : (bs : List ℕ) (i : ℕ) → i < length bs → number (take 1 (drop i bs)) ≡ getD bs i 0
@@ -110,7 +109,7 @@ with-row Empty unused inside own = refl
 module _ (d : Decoder) (bs : List ℕ) (f : ChunkHeaderFormat) (place : ℕ) (w : Known d bs f place) (r h : Row) (row-is : r ≡ rowAt (d .rows) place)
     (header-is : h ≡ carried (headerIn f bs) r) (plain : h .«timestamp_field» ≢ maxField)
     (basic : basicRefusal f true true (not (eqb (d .reader .message .id) 0)) (eqb (d .reader .message .id) (r .id)) ≡ 0)
-    (head : refusalOf f r h (d .reader .message) (d .room) ≡ 0) where
+    (head : refusalOf f r h (d .reader .message) (d .setting .room) ≡ 0) where
   abbrev id : ℕ
   id = getD bs 0 0 % 64
 
@@ -143,7 +142,7 @@ module _ (d : Decoder) (bs : List ℕ) (f : ChunkHeaderFormat) (place : ℕ) (w 
   not-head = rw (format-in f bs, its-header, its-row) (by-message (eqb (d .reader .message .id) 0) refl)
     where
       by-message : (t : Bool) → eqb (d .reader .message .id) 0 ≡ t
-          → cond (not t) (laterRefusal f r h (h .«timestamp_field»)) (firstRefusal f h (h .«timestamp_field») (d .room)) ≡ 0
+          → cond (not t) (laterRefusal f r h (h .«timestamp_field»)) (firstRefusal f h (h .«timestamp_field») (d .setting .room)) ≡ 0
       by-message true e = rw e at head
       by-message false e = rw e at head
 
@@ -151,11 +150,11 @@ module _ (d : Decoder) (bs : List ℕ) (f : ChunkHeaderFormat) (place : ℕ) (w 
   head-fits = record { form = (w .id, omega arith); fields = fields-fit bs (w .bytes) f (w .long); extended = rw its-header plain }
 
   -- what is settled, by the row and the header
-  settles-so : opens (d .«max_chunk_size») (settled d begun [] Csid) (got d begun) ≡ settledBy (d .«max_chunk_size») f place r h (d .reader)
+  settles-so : opens (d .setting .size) (settled d begun [] Csid) (got d begun) ≡ settledBy (d .setting .size) f place r h (d .reader)
   settles-so = by-message (eqb (d .reader .message .id) 0) refl
     where
       by-message : (t : Bool) → eqb (d .reader .message .id) 0 ≡ t
-          → opens (d .«max_chunk_size») (settled d begun [] Csid) (got d begun) ≡ settledBy (d .«max_chunk_size») f place r h (d .reader)
+          → opens (d .setting .size) (settled d begun [] Csid) (got d begun) ≡ settledBy (d .setting .size) f place r h (d .reader)
       by-message true e = rw (e, format-in f bs, its-header, its-row, found, w .stage, w .place-is)
       by-message false e = rw (e, format-in f bs, its-header, its-row, found, w .stage, w .place-is)
 
@@ -164,7 +163,7 @@ module _ (d : Decoder) (bs : List ℕ) (f : ChunkHeaderFormat) (place : ℕ) (w 
 
   pub known-runs : (payload : List ℕ) (n : ℕ)
       → run bs d payload n
-      ≡ then d (settledBy (d .«max_chunk_size») f place r h (d .reader)) payload (n + (1 + headerLength (typeOf f))) (drop (1 + headerLength (typeOf f)) bs)
+      ≡ then d (settledBy (d .setting .size) f place r h (d .reader)) payload (n + (1 + headerLength (typeOf f))) (drop (1 + headerLength (typeOf f)) bs)
   known-runs payload n =
       let rest = drop (1 + headerLength (typeOf f)) bs in
       let k : n + 1 + length (headOf begun) + 0 ≡ n + (1 + headerLength (typeOf f)) = omega (arith, head-length f bs) in

@@ -18,6 +18,7 @@ use Rattle.decoding.specs.Call.{after, run}
 use Rattle.byte_machine.specs.Step.{basic, named}
 use Rattle.decoding.proofs.Fields.{Reaches}
 use Rattle.decoding.proofs.Runs.{holding, run-header}
+use Rattle.byte_machine.specs.Look.{look}
 
 low-bits : (t low : ℕ) → low < 64 → (64 * t + low) % 64 ≡ low
 low-bits t low h = omega arith
@@ -26,7 +27,7 @@ module _ (d : Decoder) (r : Reader) (f : ChunkHeaderFormat) (payload : List ℕ)
   abbrev BasicRead : Form → ℕ → Type 0
   BasicRead form id =
       Reaches (run (basicBytes form (typeOf f) id ++ rest) (holding d (at r Csid)) payload n) d
-      (λ r′. named (d .room) (d .«max_chunk_size») (d .rows) r′ f id) r payload (n + length (basicBytes form (typeOf f) id)) rest
+      (λ r′. named (d .setting) (look (d .rows) id) r′ f id) r payload (n + length (basicBytes form (typeOf f) id)) rest
 
   one-byte : (id : ℕ) → 2 ≤ id → id ≤ 63 → BasicRead one id
   unfolding after

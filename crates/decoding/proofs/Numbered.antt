@@ -14,7 +14,7 @@ use Rattle.chunk_header.specs.declared.Csid.the-variants.{Id, Incomplete}
 use Rattle.byte_machine.specs.Reader.{Event, Go, Chunk, Message, Refuse, Reader, Stage, Csid as AtCsid, CsidSecond, CsidThird, InitialTimestamp, MessageLength, MessageTypeId, MessageStreamId, ExtendedTimestamp, MessagePayload, Stepped, inPayload, refuse}
 use Rattle.byte_machine.specs.Header.{extendedNext, lacks, lengthNext, opens, streamNext, timestampNext, typeNext, whole}
 use Rattle.byte_machine.specs.Payload.{landed, pays}
-use Rattle.byte_machine.specs.Rows.{find, free, rowCount}
+use Rattle.byte_machine.specs.Rows.{rowCount}
 use Rattle.chunk_meaning.specs.Meaning.{basicRefusal, firstRefusal, laterRefusal}
 use Rattle.chunk_header.specs.Basic.{csid}
 use Rattle.chunk_header.specs.Limits.{maxField}
@@ -22,6 +22,8 @@ use Rattle.byte_machine.specs.Step.{basicBy, extendedField, lengthField, named,
 use Rattle.decoding.specs.Decoder.{Decoder}
 use Rattle.decoding.specs.Answer.{message, refused}
 use Rattle.decoding.specs.Call.{Outcome, after, closes, end, run, stepOf, writes}
+use Rattle.byte_machine.specs.Setting.{Setting}
+use Rattle.byte_machine.specs.Look.{look, Look}
 
 -- a step that is not refused with the number 0
 record Numbered (s : Stepped) : Type 0 where
@@ -50,47 +52,48 @@ tested k r x p = by-test (eqb k 0) refl
     by-test true e = p
     by-test false e = refuses r k (eqb-false k 0 e)
 
-module _ (room size : ℕ) where
-  opens-numbered : (r : Reader) (got : ℕ) → Numbered (opens size r got)
+module _ (setting : Setting) where
+  opens-numbered : (r : Reader) (got : ℕ) → Numbered (opens (setting .size) r got)
   unfolding opens
   opens-numbered r got = either (eqb (r .chunk .header .«message_length») 0) _ _ (ends _ _) (goes _ _)
 
-  whole-numbered : (r : Reader) (time : ℕ) → Numbered (whole room size r time)
+  whole-numbered : (r : Reader) (time : ℕ) → Numbered (whole setting r time)
   unfolding whole
-  whole-numbered r time = either (eqb (r .message .id) 0) _ _ (tested (firstRefusal (r .chunk .format) (r .chunk .header) time room) r _ (opens-numbered _ _)) (tested (laterRefusal (r .chunk .format) (r .chunk .before) (r .chunk .header) time) r _ (opens-numbered _ _))
+  whole-numbered r time = either (eqb (r .message .id) 0) _ _ (tested (firstRefusal (r .chunk .format) (r .chunk .header) time (setting .room)) r _ (opens-numbered _ _)) (tested (laterRefusal (r .chunk .format) (r .chunk .before) (r .chunk .header) time) r _ (opens-numbered _ _))
 
-  extended-numbered : (r : Reader) → Numbered (extendedNext room size r)
+  extended-numbered : (r : Reader) → Numbered (extendedNext setting r)
   unfolding extendedNext
   extended-numbered r = either (eqb (r .chunk .header .«timestamp_field») maxField) _ _ (goes _ _) (whole-numbered r _)
 
-  stream-numbered : (r : Reader) → Numbered (streamNext room size r)
+  stream-numbered : (r : Reader) → Numbered (streamNext setting r)
   unfolding streamNext
   stream-numbered r = either (eqb (lacks r StreamId) 0) _ _ (extended-numbered r) (goes _ _)
 
-  type-numbered : (r : Reader) → Numbered (typeNext room size r)
+  type-numbered : (r : Reader) → Numbered (typeNext setting r)
   unfolding typeNext
   type-numbered r = either (eqb (lacks r TypeId) 0) _ _ (stream-numbered r) (goes _ _)
 
-  length-numbered : (r : Reader) → Numbered (lengthNext room size r)
+  length-numbered : (r : Reader) → Numbered (lengthNext setting r)
   unfolding lengthNext
   length-numbered r = either (eqb (lacks r Length) 0) _ _ (type-numbered r) (goes _ _)
 
-  time-numbered : (r : Reader) → Numbered (timestampNext room size r)
+  time-numbered : (r : Reader) → Numbered (timestampNext setting r)
   unfolding timestampNext
   time-numbered r = either (eqb (lacks r Timestamp) 0) _ _ (length-numbered r) (goes _ _)
 
-  module _ (rows : List ℕ) (r : Reader) where
-    named-numbered : (format : ChunkHeaderFormat) (id : ℕ) → Numbered (named room size rows r format id)
+  module _ (ask : ℕ → Look) (r : Reader) where
+    named-numbered : (format : ChunkHeaderFormat) (id : ℕ) → Numbered (named setting (ask id) r format id)
     unfolding named
     named-numbered format id =
-        let place = find rows id in
-        tested (basicRefusal format (ltb place rowCount) (ltb (free rows) rowCount) (not (eqb (r .message .id) 0)) (eqb (r .message .id) id)) r _ (either (ltb place rowCount) _ _ (time-numbered _) (goes _ _))
+        let said = ask id in
+        tested (basicRefusal format (ltb (said .place) rowCount) (ltb (said .unused) rowCount) (not (eqb (r .message .id) 0)) (eqb (r .message .id) id)) r _
+        (either (ltb (said .place) rowCount) _ _ (time-numbered _) (goes _ _))
 
-    basic-numbered : (c : Csid) (format : ChunkHeaderFormat) (kept : Stage) → Numbered (basicBy c room size rows r format kept)
+    basic-numbered : (c : Csid) (format : ChunkHeaderFormat) (kept : Stage) → Numbered (basicBy c setting ask r format kept)
     basic-numbered (Id id) format kept = named-numbered format id
     basic-numbered Incomplete format kept = goes _ _
 
-    stepped-numbered : (stage : Stage) (b : ℕ) → Numbered (stepped stage room size rows r b)
+    stepped-numbered : (stage : Stage) (b : ℕ) → Numbered (stepped stage setting ask r b)
     unfolding timestampField lengthField typeField streamField extendedField
     stepped-numbered AtCsid b = basic-numbered (csid (b ∷ [])) _ _
     stepped-numbered (CsidSecond a) b = basic-numbered (csid (a ∷ b ∷ [])) _ _
@@ -109,8 +112,8 @@ landed-numbered r n = either (eqb (r .chunk .left - n) 0) _ _ (either (ltb (r .m
 step-numbered : (d : Decoder) (b : ℕ) → Numbered (stepOf d b)
 unfolding stepOf
 step-numbered d b =
-    either (inPayload (d .reader .stage)) _ _ (either (pays (d .room) (d .reader)) _ _ (landed-numbered (d .reader) 1) (refuses (d .reader) 255 (λ e. omega (arith, e))))
-    (stepped-numbered (d .room) (d .«max_chunk_size») (d .rows) (d .reader) (d .reader .stage) b)
+    either (inPayload (d .reader .stage)) _ _ (either (pays (d .setting .room) (d .reader)) _ _ (landed-numbered (d .reader) 1) (refuses (d .reader) 255 (λ e. omega (arith, e))))
+    (stepped-numbered (d .setting) (look (d .rows)) (d .reader) (d .reader .stage) b)
 
 -- so a run that is refused leaves a closed decoder
 end-refused : (e : Event) (d : Decoder) (payload : List ℕ) (n k m number : ℕ) (o : Outcome) → ((j : ℕ) → e ≡ Refuse j → j ≢ 0) → d .closed ≡ closes e number

@@ -37,7 +37,7 @@ run-uses (x ∷ a) d payload n =
     .1
 
 -- an open decoder with a byte to take and a long enough buffer uses one byte at least
-pub uses-a-byte : (d : Decoder) (x : ℕ) (a payload : List ℕ) → d .closed ≡ 0 → d .room ≤ length payload → 0 < used (next d (x ∷ a) payload .answer)
+pub uses-a-byte : (d : Decoder) (x : ℕ) (a payload : List ℕ) → d .closed ≡ 0 → d .setting .room ≤ length payload → 0 < used (next d (x ∷ a) payload .answer)
 unfolding run
 uses-a-byte d x a payload h k =
     let s = stepOf d x in

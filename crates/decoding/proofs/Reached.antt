@@ -24,8 +24,8 @@ use Rattle.decoding.proofs.Fitting.{Fits, fitting-fits, lengthOf, quiet
 -- what holds of every decoder that calls can make
 pub record Reached (d : Decoder) : Type 0 where
   pub sound : Sound (d .rows) (d .reader)
-  pub some : 0 < d .«max_chunk_size»
-  pub fits : Fits (d .room) (lengthOf (d .rows) (d .reader .message .id)) (d .reader)
+  pub some : 0 < d .setting .size
+  pub fits : Fits (d .setting .room) (lengthOf (d .rows) (d .reader .message .id)) (d .reader)
   pub unguarded : d .closed ≢ 255
 
 -- a refusal that is not the guard's closes with another number
@@ -54,11 +54,11 @@ step-reached d b k =
     reader-after : Bool → Reader
     reader-after t = cond t (d .reader) (stepOf d b .reader)
 
-    by-event : (t : Bool) → Sound (rows-after t) (reader-after t) × Fits (d .room) (lengthOf (rows-after t) (reader-after t .message .id)) (reader-after t)
+    by-event : (t : Bool) → Sound (rows-after t) (reader-after t) × Fits (d .setting .room) (lengthOf (rows-after t) (reader-after t .message .id)) (reader-after t)
     by-event true = (k .sound, k .fits)
     by-event false =
         let s = step-sound d b (k .sound) in
-        (s, fitting-fits (d .room) (d .rows) (d .reader .message .id) (stepOf d b) (k .sound .long) s (step-fits d b (k .some) (k .sound) (k .fits)))
+        (s, fitting-fits (d .setting .room) (d .rows) (d .reader .message .id) (stepOf d b) (k .sound .long) s (step-fits d b (k .some) (k .sound) (k .fits)))
 
 end-reached : (e : Event) (d : Decoder) (payload : List ℕ) (n : ℕ) (o : Outcome) → Reached d → Reached (o .deserializer)
     → Reached (end e d payload n o .deserializer)
@@ -79,7 +79,7 @@ run-reached (x ∷ a) d payload n s =
 -- by a call
 pub next-reached : (d : Decoder) (input payload : List ℕ) → Reached d → Reached (next d input payload .deserializer)
 unfolding next
-next-reached d input payload s = by-cases (eqb (d .closed) 0) (ltb (length payload) (d .room))
+next-reached d input payload s = by-cases (eqb (d .closed) 0) (ltb (length payload) (d .setting .room))
   where
     by-cases : (t u : Bool)
         → Reached (cond (not t) (outcome (refused (d .closed) 0) d payload) (cond u (outcome (refused 7 0) d payload) (run input d payload 0)) .deserializer)
@@ -147,7 +147,7 @@ run-unguarded (x ∷ a) d payload n m s =
 -- nor by a call
 pub next-unguarded : (d : Decoder) (input payload : List ℕ) (m : ℕ) → Reached d → next d input payload .answer ≢ refused 255 m
 unfolding next
-next-unguarded d input payload m s = by-cases (eqb (d .closed) 0) (ltb (length payload) (d .room))
+next-unguarded d input payload m s = by-cases (eqb (d .closed) 0) (ltb (length payload) (d .setting .room))
   where
     by-cases : (t u : Bool)
         → cond (not t) (outcome (refused (d .closed) 0) d payload) (cond u (outcome (refused 7 0) d payload) (run input d payload 0)) .answer

@@ -32,25 +32,25 @@ module _ (d : Decoder) (payload : List ℕ) where
   -- the time field, the length, the type, the stream id and the extended time
   time-field : (r : Reader) (v n : ℕ) (rest : List ℕ) → v < 2 ^ 24
       → Reaches (run (bigEndian 3 v ++ rest) (holding d (at r (InitialTimestamp 0 3))) payload n) d
-      (λ r′. lengthNext (d .room) (d .«max_chunk_size») (headed r′ (fielded (r′ .chunk .header) v))) r payload (n + 1 + 2) rest
+      (λ r′. lengthNext (d .setting) (headed r′ (fielded (r′ .chunk .header) v))) r payload (n + 1 + 2) rest
   unfolding bigEndian timestampField
   time-field r v n rest h =
       rw (number-big 3 v h) at
-      (field InitialTimestamp (λ room size r′ x. lengthNext room size (headed r′ (fielded (r′ .chunk .header) x))) (λ x k. refl) (λ x k room size rows r′ b. refl) d r payload rest
+      (field InitialTimestamp (λ setting r′ x. lengthNext setting (headed r′ (fielded (r′ .chunk .header) x))) (λ x k. refl) (λ x k setting rows r′ b. refl) d r payload rest
       _ (bigEndian 2 v) 0 0 n (bytes-big 3 v) (lit< tt) (lit< tt))
 
   length-field : (r : Reader) (v n : ℕ) (rest : List ℕ) → v < 2 ^ 24
       → Reaches (run (bigEndian 3 v ++ rest) (holding d (at r (MessageLength 0 3))) payload n) d
-      (λ r′. typeNext (d .room) (d .«max_chunk_size») (headed r′ (lengthed (r′ .chunk .header) v))) r payload (n + 1 + 2) rest
+      (λ r′. typeNext (d .setting) (headed r′ (lengthed (r′ .chunk .header) v))) r payload (n + 1 + 2) rest
   unfolding bigEndian lengthField
   length-field r v n rest h =
       rw (number-big 3 v h) at
-      (field MessageLength (λ room size r′ x. typeNext room size (headed r′ (lengthed (r′ .chunk .header) x))) (λ x k. refl) (λ x k room size rows r′ b. refl) d r payload rest
+      (field MessageLength (λ setting r′ x. typeNext setting (headed r′ (lengthed (r′ .chunk .header) x))) (λ x k. refl) (λ x k setting rows r′ b. refl) d r payload rest
       _ (bigEndian 2 v) 0 0 n (bytes-big 3 v) (lit< tt) (lit< tt))
 
   type-field : (r : Reader) (v n : ℕ) (rest : List ℕ) → v < 2 ^ 8
       → run (bigEndian 1 v ++ rest) (holding d (at r MessageTypeId)) payload n
-      ≡ then (holding d (at r MessageTypeId)) (streamNext (d .room) (d .«max_chunk_size») (headed (at r MessageTypeId) (typed (r .chunk .header) v))) payload (n + 1) rest
+      ≡ then (holding d (at r MessageTypeId)) (streamNext (d .setting) (headed (at r MessageTypeId) (typed (r .chunk .header) v))) payload (n + 1) rest
   unfolding bigEndian typeField after
   type-field r v n rest h =
       let e : v / 256 ^ 0 % 256 ≡ v = omega arith in
@@ -58,20 +58,20 @@ module _ (d : Decoder) (payload : List ℕ) where
 
   stream-field : (r : Reader) (v n : ℕ) (rest : List ℕ) → v < 2 ^ 32
       → Reaches (run (littleEndian 4 v ++ rest) (holding d (at r (MessageStreamId 0 4))) payload n) d
-      (λ r′. extendedNext (d .room) (d .«max_chunk_size») (headed r′ (streamed (r′ .chunk .header) v))) r payload (n + 1 + 3) rest
+      (λ r′. extendedNext (d .setting) (headed r′ (streamed (r′ .chunk .header) v))) r payload (n + 1 + 3) rest
   unfolding littleEndian streamField
   stream-field r v n rest h =
-      of-number (λ x r′. extendedNext (d .room) (d .«max_chunk_size») (headed r′ (streamed (r′ .chunk .header) x))) (swapped-back v h)
-      (field MessageStreamId (λ room size r′ x. extendedNext room size (headed r′ (streamed (r′ .chunk .header) (swapped x)))) (λ x k. refl) (λ x k room size rows r′ b. refl) d r payload rest
+      of-number (λ x r′. extendedNext (d .setting) (headed r′ (streamed (r′ .chunk .header) x))) (swapped-back v h)
+      (field MessageStreamId (λ setting r′ x. extendedNext setting (headed r′ (streamed (r′ .chunk .header) (swapped x)))) (λ x k. refl) (λ x k setting rows r′ b. refl) d r payload rest
       _ (littleEndian 3 (v / 256)) 0 0 n (bytes-little 4 v) (lit< tt) (lit< tt))
 
   extended-field : (r : Reader) (v n : ℕ) (rest : List ℕ) → v < 2 ^ 32
       → Reaches (run (bigEndian 4 v ++ rest) (holding d (at r (ExtendedTimestamp 0 4))) payload n) d
-      (λ r′. whole (d .room) (d .«max_chunk_size») r′ v) r payload (n + 1 + 3) rest
+      (λ r′. whole (d .setting) r′ v) r payload (n + 1 + 3) rest
   unfolding bigEndian extendedField
   extended-field r v n rest h =
       rw (number-big 4 v h) at
-      (field ExtendedTimestamp (λ room size r′ x. whole room size r′ x) (λ x k. refl) (λ x k room size rows r′ b. refl) d r payload rest
+      (field ExtendedTimestamp (λ setting r′ x. whole setting r′ x) (λ x k. refl) (λ x k setting rows r′ b. refl) d r payload rest
       _ (bigEndian 3 v) 0 0 n (bytes-big 4 v) (lit< tt) (lit< tt))
 
   -- a header, from the byte after the basic header to the byte before the extended time
@@ -81,8 +81,8 @@ module _ (d : Decoder) (payload : List ℕ) where
 
     abbrev HeaderRead : Header → ℕ → List ℕ → Type 0
     HeaderRead h n rest =
-        Reaches (then (holding d held) (timestampNext (d .room) (d .«max_chunk_size») (begun h)) payload n (headerBytes h ++ rest)) d
-        (λ r. extendedNext (d .room) (d .«max_chunk_size») (headed r (carried h (r .chunk .header)))) (begun h) payload (n + length (headerBytes h)) rest
+        Reaches (then (holding d held) (timestampNext (d .setting) (begun h)) payload n (headerBytes h ++ rest)) d
+        (λ r. extendedNext (d .setting) (headed r (carried h (r .chunk .header)))) (begun h) payload (n + length (headerBytes h)) rest
 
     type-2 : (delta n : ℕ) (rest : List ℕ) → delta < 2 ^ 24 → HeaderRead (type2 delta) n rest
     unfolding timestampNext lengthNext typeNext streamNext fieldLength after
@@ -138,8 +138,8 @@ module _ (d : Decoder) (payload : List ℕ) where
 
   -- the extended time, where the field says that there is one
   pub extended-read : (held : Reader) (e : Extended) (r : Reader) (s : Stage) (n : ℕ) (rest : List ℕ) → ExtendedFits e (r .chunk .header)
-      → Reaches (then (holding d held) (extendedNext (d .room) (d .«max_chunk_size») (at r s)) payload n (extendedBytes e ++ rest)) d
-      (λ r′. whole (d .room) (d .«max_chunk_size») r′ (says e (r .chunk .header))) r payload (n + length (extendedBytes e)) rest
+      → Reaches (then (holding d held) (extendedNext (d .setting) (at r s)) payload n (extendedBytes e ++ rest)) d
+      (λ r′. whole (d .setting) r′ (says e (r .chunk .header))) r payload (n + length (extendedBytes e)) rest
   unfolding extendedNext after
   extended-read held absent r s n rest h = record { stage = s; held = held; reached = rw (ne-eqb (r .chunk .header .«timestamp_field») maxField h, add-zero n) }
   extended-read held (present time) r s n rest h =

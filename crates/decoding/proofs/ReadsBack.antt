@@ -28,12 +28,12 @@ use Rattle.decoding.proofs.Identifying.{basic-read}
 use Rattle.byte_machine.proofs.Naming.{named-refused}
 use Rattle.decoding.proofs.Reading.{extended-read, header-read}
 use Rattle.decoding.proofs.Runs.{bulk, held-forgotten, holding, then}
+use Rattle.byte_machine.specs.Look.{look}
 
 -- the decoder once a stream has its row
 abbrev pub claiming : Decoder → ℕ → Decoder
 claiming d id = record {
-  room = d .room;
-  «max_chunk_size» = d .«max_chunk_size»;
+  setting = d .setting;
   closed = d .closed;
   reader = d .reader;
   rows = claimedIn (d .rows) id;
@@ -75,7 +75,7 @@ module _ (d : Decoder) (c : Chunk) where
 
   -- a chunk of a message that lacks a byte ends within the room
   abbrev pub Within : Type 0
-  Within = header d c .«message_length» ≢ 0 → (0 < left d c) × (got d c + left d c ≤ d .room)
+  Within = header d c .«message_length» ≢ 0 → (0 < left d c) × (got d c + left d c ≤ d .setting .room)
 
   -- a chunk is not of a stream without a row, except for type 0
   abbrev pub Rowed : Type 0
@@ -90,14 +90,14 @@ module _ (d : Decoder) (c : Chunk) (payload : List ℕ) where
   read st = reader st (current (formatFor (c .header)) (placeOf (d .rows) (c .id)) (row d c) (header d c) 0) (d .reader .message)
 
   begins : (held : Reader) (st : Stage) (m : ℕ) (rest : List ℕ) → basicRefused d c ≡ 0 → (ltb (find (d .rows) (c .id)) 64 ≡ false → formatFor (c .header) ≡ Full)
-      → then (holding d held) (named (d .room) (d .«max_chunk_size») (d .rows) (at (d .reader) st) (formatFor (c .header)) (c .id)) payload m rest
-      ≡ then (holding (claiming d (c .id)) held) (timestampNext (d .room) (d .«max_chunk_size») (reading st)) payload m rest
+      → then (holding d held) (named (d .setting) (look (d .rows) (c .id)) (at (d .reader) st) (formatFor (c .header)) (c .id)) payload m rest
+      ≡ then (holding (claiming d (c .id)) held) (timestampNext (d .setting) (reading st)) payload m rest
   unfolding named timestampNext fieldLength after
   begins held st m rest k f = by-row (ltb (find (d .rows) (c .id)) 64) refl
     where
       by-row : (t : Bool) → ltb (find (d .rows) (c .id)) 64 ≡ t
-          → then (holding d held) (named (d .room) (d .«max_chunk_size») (d .rows) (at (d .reader) st) (formatFor (c .header)) (c .id)) payload m rest
-          ≡ then (holding (claiming d (c .id)) held) (timestampNext (d .room) (d .«max_chunk_size») (reading st)) payload m rest
+          → then (holding d held) (named (d .setting) (look (d .rows) (c .id)) (at (d .reader) st) (formatFor (c .header)) (c .id)) payload m rest
+          ≡ then (holding (claiming d (c .id)) held) (timestampNext (d .setting) (reading st)) payload m rest
       by-row true e = rw (k, e)
       by-row false e =
           let q = f e in
@@ -109,35 +109,35 @@ module _ (d : Decoder) (c : Chunk) (payload : List ℕ) where
   settled st = reader st (current (formatFor (c .header)) (placeOf (d .rows) (c .id)) (row d c) (stored d c) 0) (d .reader .message)
 
   settles : (st : Stage) → headerRefused d c ≡ 0
-      → whole (d .room) (d .«max_chunk_size») (read st) (says (c .extended) (header d c)) ≡ opens (d .«max_chunk_size») (settled st) (got d c)
+      → whole (d .setting) (read st) (says (c .extended) (header d c)) ≡ opens (d .setting .size) (settled st) (got d c)
   unfolding whole
   settles st k = by-message (eqb (d .reader .message .id) 0) refl
     where
       by-message : (t : Bool) → eqb (d .reader .message .id) 0 ≡ t
-          → whole (d .room) (d .«max_chunk_size») (read st) (says (c .extended) (header d c)) ≡ opens (d .«max_chunk_size») (settled st) (got d c)
+          → whole (d .setting) (read st) (says (c .extended) (header d c)) ≡ opens (d .setting .size) (settled st) (got d c)
       by-message true e =
-          let j : firstRefusal (formatFor (c .header)) (header d c) (says (c .extended) (header d c)) (d .room) ≡ 0 = rw e at k in
+          let j : firstRefusal (formatFor (c .header)) (header d c) (says (c .extended) (header d c)) (d .setting .room) ≡ 0 = rw e at k in
           rw (e, j)
       by-message false e =
           let j : laterRefusal (formatFor (c .header)) (row d c) (header d c) (says (c .extended) (header d c)) ≡ 0 = rw e at k in
           rw (e, j)
 
   settles-not : (st : Stage) → headerRefused d c ≢ 0
-      → whole (d .room) (d .«max_chunk_size») (read st) (says (c .extended) (header d c)) ≡ refuse (read st) (headerRefused d c)
+      → whole (d .setting) (read st) (says (c .extended) (header d c)) ≡ refuse (read st) (headerRefused d c)
   unfolding whole
   settles-not st k = by-message (eqb (d .reader .message .id) 0) refl
     where
       by-message : (t : Bool) → eqb (d .reader .message .id) 0 ≡ t
-          → whole (d .room) (d .«max_chunk_size») (read st) (says (c .extended) (header d c)) ≡ refuse (read st) (headerRefused d c)
+          → whole (d .setting) (read st) (says (c .extended) (header d c)) ≡ refuse (read st) (headerRefused d c)
       by-message true e =
-          let j : firstRefusal (formatFor (c .header)) (header d c) (says (c .extended) (header d c)) (d .room) ≢ 0 = rw e at k in
+          let j : firstRefusal (formatFor (c .header)) (header d c) (says (c .extended) (header d c)) (d .setting .room) ≢ 0 = rw e at k in
           rw (e, ne-eqb _ 0 j)
       by-message false e =
           let j : laterRefusal (formatFor (c .header)) (row d c) (header d c) (says (c .extended) (header d c)) ≢ 0 = rw e at k in
           rw (e, ne-eqb _ 0 j)
 
   -- a message of no bytes ends with its header
-  no-bytes : (st : Stage) → header d c .«message_length» ≡ 0 → opens (d .«max_chunk_size») (settled st) (got d c) ≡ finished d c
+  no-bytes : (st : Stage) → header d c .«message_length» ≡ 0 → opens (d .setting .size) (settled st) (got d c) ≡ finished d c
   unfolding opens
   no-bytes st e =
       let f : ltb (got d c + length (c .payload)) (header d c .«message_length») ≡ false =
@@ -149,7 +149,7 @@ module _ (d : Decoder) (c : Chunk) (payload : List ℕ) where
   abbrev paying : Reader
   paying = reader MessagePayload (current (formatFor (c .header)) (placeOf (d .rows) (c .id)) (row d c) (stored d c) (left d c)) (unfinished (d .reader .message .id) (got d c))
 
-  opens-payload : (st : Stage) → header d c .«message_length» ≢ 0 → opens (d .«max_chunk_size») (settled st) (got d c) ≡ go paying
+  opens-payload : (st : Stage) → header d c .«message_length» ≢ 0 → opens (d .setting .size) (settled st) (got d c) ≡ go paying
   unfolding opens
   opens-payload st e = rw (ne-eqb (header d c .«message_length») 0 e)
 
@@ -176,7 +176,7 @@ module _ (d : Decoder) (c : Chunk) (payload : List ℕ) where
 
   -- the payload, from the last byte of the header on
   fills : (held : Reader) (st : Stage) (n : ℕ) (rest : List ℕ) → length (c .payload) ≡ left d c → Within d c
-      → then (holding (claiming d (c .id)) held) (opens (d .«max_chunk_size») (settled st) (got d c)) payload n (c .payload ++ rest)
+      → then (holding (claiming d (c .id)) held) (opens (d .setting .size) (settled st) (got d c)) payload n (c .payload ++ rest)
       ≡ then (claiming d (c .id)) (finished d c) (sets payload (got d c) (c .payload)) (n + length (c .payload)) rest
   unfolding after
   fills held st n rest e w = by-length (eqb (header d c .«message_length») 0) refl
@@ -185,7 +185,7 @@ module _ (d : Decoder) (c : Chunk) (payload : List ℕ) where
       empty q = omega (arith, e, q)
 
       by-length : (t : Bool) → eqb (header d c .«message_length») 0 ≡ t
-          → then (holding (claiming d (c .id)) held) (opens (d .«max_chunk_size») (settled st) (got d c)) payload n (c .payload ++ rest)
+          → then (holding (claiming d (c .id)) held) (opens (d .setting .size) (settled st) (got d c)) payload n (c .payload ++ rest)
           ≡ then (claiming d (c .id)) (finished d c) (sets payload (got d c) (c .payload)) (n + length (c .payload)) rest
       by-length true t =
           let q = eqb-true (header d c .«message_length») 0 t in
@@ -209,7 +209,7 @@ module _ (d : Decoder) (c : Chunk) (payload : List ℕ) where
 
   -- to the last byte of the basic header
   basic-back : (n : ℕ) (rest : List ℕ) → d .reader .stage ≡ Csid → FormFits (c .form) (c .id)
-      → Reaches (run (basicOf c ++ rest) d payload n) d (λ r. named (d .room) (d .«max_chunk_size») (d .rows) r (formatFor (c .header)) (c .id)) (d .reader) payload
+      → Reaches (run (basicOf c ++ rest) d payload n) d (λ r. named (d .setting) (look (d .rows) (c .id)) r (formatFor (c .header)) (c .id)) (d .reader) payload
       (n + length (basicOf c)) rest
   basic-back n rest s fits =
       rw (put-between d s) at (rw (type-for (c .header)) at (basic-read d (d .reader) (formatFor (c .header)) payload n rest (c .form) (c .id) fits))
@@ -217,7 +217,7 @@ module _ (d : Decoder) (c : Chunk) (payload : List ℕ) where
   -- to the last byte of the header
   headed-back : (n : ℕ) (rest : List ℕ) → d .reader .stage ≡ Csid → HeadFits d c → basicRefused d c ≡ 0 → Rowed d c
       → Reaches (run (basicOf c ++ (headOf c ++ (extendedOf c ++ rest))) d payload n) (claiming d (c .id))
-      (λ r. whole (d .room) (d .«max_chunk_size») r (says (c .extended) (header d c))) (read Csid) payload (n + length (basicOf c) + length (headOf c) + length (extendedOf c)) rest
+      (λ r. whole (d .setting) r (says (c .extended) (header d c))) (read Csid) payload (n + length (basicOf c) + length (headOf c) + length (extendedOf c)) rest
   headed-back n rest s fits k f =
       let n1 = n + length (basicOf c) in
       let n2 = n1 + length (headOf c) in
@@ -235,7 +235,7 @@ module _ (d : Decoder) (c : Chunk) (payload : List ℕ) where
       }
 
   -- what opening a payload settles is never a refusal, and goes by no stage
-  opens-quietly : (st : Stage) → isRefusal (opens (d .«max_chunk_size») (settled st) (got d c) .event) ≡ false
+  opens-quietly : (st : Stage) → isRefusal (opens (d .setting .size) (settled st) (got d c) .event) ≡ false
   unfolding opens
   opens-quietly st = by-length (eqb (header d c .«message_length») 0)
     where
@@ -243,20 +243,20 @@ module _ (d : Decoder) (c : Chunk) (payload : List ℕ) where
       by-length true = refl
       by-length false = refl
 
-  stage-forgotten : (st : Stage) → opens (d .«max_chunk_size») (settled st) (got d c) ≡ opens (d .«max_chunk_size») (settled Csid) (got d c)
+  stage-forgotten : (st : Stage) → opens (d .setting .size) (settled st) (got d c) ≡ opens (d .setting .size) (settled Csid) (got d c)
   unfolding opens
   stage-forgotten st = refl
 
   -- a whole header that is not refused, up to its payload
   pub opened : (n : ℕ) (rest : List ℕ) → d .reader .stage ≡ Csid → HeadFits d c → basicRefused d c ≡ 0 → headerRefused d c ≡ 0 → Rowed d c
       → run (basicOf c ++ (headOf c ++ (extendedOf c ++ rest))) d payload n
-      ≡ then (claiming d (c .id)) (opens (d .«max_chunk_size») (settled Csid) (got d c)) payload (n + length (basicOf c) + length (headOf c) + length (extendedOf c)) rest
+      ≡ then (claiming d (c .id)) (opens (d .setting .size) (settled Csid) (got d c)) payload (n + length (basicOf c) + length (headOf c) + length (extendedOf c)) rest
   opened n rest s fits k j f =
       let h = headed-back n rest s fits k f in
       let m = n + length (basicOf c) + length (headOf c) + length (extendedOf c) in
       h .reached
       ∙ ap (λ (x : Stepped). then (holding (claiming d (c .id)) (h .held)) x payload m rest) (settles (h .stage) j)
-      ∙ held-forgotten (claiming d (c .id)) (h .held) (opens (d .«max_chunk_size») (settled (h .stage)) (got d c)) payload m rest (opens-quietly (h .stage))
+      ∙ held-forgotten (claiming d (c .id)) (h .held) (opens (d .setting .size) (settled (h .stage)) (got d c)) payload m rest (opens-quietly (h .stage))
       ∙ ap (λ (x : Stepped). then (claiming d (c .id)) x payload m rest) (stage-forgotten (h .stage))
 
   -- a whole chunk that is not refused
@@ -281,7 +281,7 @@ module _ (d : Decoder) (c : Chunk) (payload : List ℕ) where
         held = b .held;
         reached =
             b .reached
-            ∙ (rw (← named-refused (d .room) (d .«max_chunk_size») (d .rows) (at (d .reader) (b .stage)) (formatFor (c .header)) (c .id) (find (d .rows) (c .id)) (free (d .rows)) (basicRefused d c) refl refl refl k));
+            ∙ (rw (← named-refused (d .setting) (d .rows) (at (d .reader) (b .stage)) (formatFor (c .header)) (c .id) (find (d .rows) (c .id)) (free (d .rows)) (basicRefused d c) refl refl refl k));
       }
 
   -- a chunk that is refused at the end of its header, extended time included, whatever follows

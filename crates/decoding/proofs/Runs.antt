@@ -17,6 +17,7 @@ use Rattle.decoding.specs.Answer.{more, refused}
 use Rattle.decoding.specs.Call.{Outcome, outcome, isRefusal, stepOf, writes, after, end, run, next}
 use Rattle.byte_machine.specs.Payload.{paid, pays, landed}
 use Rattle.byte_machine.specs.Step.{stepped}
+use Rattle.byte_machine.specs.Look.{look}
 
 -- what follows a step of a decoder: the answer, or the rest of the run
 abbrev pub then : Decoder → Stepped → List ℕ → ℕ → List ℕ → Outcome
@@ -52,16 +53,16 @@ pays-tells room r = go-on (eqb (r .chunk .left) 0) refl
 -- one byte of a header, of a payload that cannot be, and of one that may come
 module _ (b : ℕ) (bs : List ℕ) (d : Decoder) (payload : List ℕ) (n : ℕ) where
   pub run-header : inPayload (d .reader .stage) ≡ false
-      → run (b ∷ bs) d payload n ≡ then d (stepped (d .reader .stage) (d .room) (d .«max_chunk_size») (d .rows) (d .reader) b) payload (n + 1) bs
+      → run (b ∷ bs) d payload n ≡ then d (stepped (d .reader .stage) (d .setting) (look (d .rows)) (d .reader) b) payload (n + 1) bs
   unfolding run stepOf writes
   run-header h = rw h
 
-  pub run-broken : inPayload (d .reader .stage) ≡ true → pays (d .room) (d .reader) ≡ false
+  pub run-broken : inPayload (d .reader .stage) ≡ true → pays (d .setting .room) (d .reader) ≡ false
       → run (b ∷ bs) d payload n ≡ then d (refuse (d .reader) 255) payload (n + 1) bs
   unfolding run stepOf writes
   run-broken h p = rw (h, p)
 
-  run-payload : inPayload (d .reader .stage) ≡ true → pays (d .room) (d .reader) ≡ true
+  run-payload : inPayload (d .reader .stage) ≡ true → pays (d .setting .room) (d .reader) ≡ true
       → run (b ∷ bs) d payload n ≡ then d (landed (d .reader) 1) (set payload (d .reader .message .got) b) (n + 1) bs
   unfolding run stepOf writes
   run-payload h p = rw (h, p)
@@ -94,14 +95,14 @@ landed-not-refused r n = by-cases (eqb (r .chunk .left - n) 0) (ltb (r .message 
 
 -- a run over payload bytes of one chunk
 pub bulk : (xs rest : List ℕ) (d : Decoder) (payload : List ℕ) (n : ℕ) → inPayload (d .reader .stage) ≡ true → 0 < length xs
-    → length xs ≤ d .reader .chunk .left → d .reader .message .got + d .reader .chunk .left ≤ d .room
+    → length xs ≤ d .reader .chunk .left → d .reader .message .got + d .reader .chunk .left ≤ d .setting .room
     → run (xs ++ rest) d payload n ≡ then d (landed (d .reader) (length xs)) (sets payload (d .reader .message .got) xs) (n + length xs) rest
 unfolding after
 bulk [] rest d payload n s h k r = absurd (not-suc-le-zero h)
-bulk (x ∷ []) rest d payload n s h k r = run-payload x rest d payload n s (pays-is (d .room) (d .reader) (omega arith) r)
+bulk (x ∷ []) rest d payload n s h k r = run-payload x rest d payload n s (pays-is (d .setting .room) (d .reader) (omega arith) r)
 bulk (x ∷ y ∷ xs) rest d payload n s h k r =
     let e : n + 1 + length (y ∷ xs) ≡ n + length (x ∷ y ∷ xs) = omega arith in
-    run-payload x (y ∷ xs ++ rest) d payload n s (pays-is (d .room) (d .reader) (omega arith) r)
+    run-payload x (y ∷ xs ++ rest) d payload n s (pays-is (d .setting .room) (d .reader) (omega arith) r)
     ∙ (rw (landed-short (d .reader) 1 (omega arith)))
     ∙ bulk (y ∷ xs) rest (holding d (nearer (d .reader))) (set payload (d .reader .message .got) x) (n + 1) s (omega arith) (omega arith) (omega arith)
     ∙ held-forgotten d (nearer (d .reader)) (landed (nearer (d .reader)) (length (y ∷ xs))) _ _ rest (landed-not-refused (nearer (d .reader)) (length (y ∷ xs)))
@@ -109,7 +110,7 @@ bulk (x ∷ y ∷ xs) rest d payload n s h k r =
 
 -- the same at a place of the input
 pub bulk-at : (input : List ℕ) (at k : ℕ) (d : Decoder) (payload : List ℕ) → inPayload (d .reader .stage) ≡ true → 0 < k
-    → k ≤ d .reader .chunk .left → d .reader .message .got + d .reader .chunk .left ≤ d .room → at + k ≤ length input
+    → k ≤ d .reader .chunk .left → d .reader .message .got + d .reader .chunk .left ≤ d .setting .room → at + k ≤ length input
     → run (drop at input) d payload at
     ≡ then d (landed (d .reader) k) (sets payload (d .reader .message .got) (take k (drop at input))) (at + k) (drop (at + k) input)
 bulk-at input at k d payload s p l r w =
@@ -128,13 +129,13 @@ pub next-closed : (d : Decoder) (input payload : List ℕ) → d .closed ≢ 0 �
 unfolding next
 next-closed d input payload h = rw (ne-eqb (d .closed) 0 h)
 
-pub next-short : (d : Decoder) (input payload : List ℕ) → d .closed ≡ 0 → length payload < d .room → next d input payload ≡ outcome (refused 7 0) d payload
+pub next-short : (d : Decoder) (input payload : List ℕ) → d .closed ≡ 0 → length payload < d .setting .room → next d input payload ≡ outcome (refused 7 0) d payload
 unfolding next
-next-short d input payload h k = rw (eq-eqb (d .closed) 0 h, lt-ltb (length payload) (d .room) k)
+next-short d input payload h k = rw (eq-eqb (d .closed) 0 h, lt-ltb (length payload) (d .setting .room) k)
 
-pub next-runs : (d : Decoder) (input payload : List ℕ) → d .closed ≡ 0 → d .room ≤ length payload → next d input payload ≡ run input d payload 0
+pub next-runs : (d : Decoder) (input payload : List ℕ) → d .closed ≡ 0 → d .setting .room ≤ length payload → next d input payload ≡ run input d payload 0
 unfolding next
-next-runs d input payload h k = rw (eq-eqb (d .closed) 0 h, le-ltb (length payload) (d .room) k)
+next-runs d input payload h k = rw (eq-eqb (d .closed) 0 h, le-ltb (length payload) (d .setting .room) k)
 
 pub run-end : (d : Decoder) (input payload : List ℕ) (n at : ℕ) → length input ≤ at → run (drop at input) d payload n ≡ outcome (more n) d payload
 unfolding run

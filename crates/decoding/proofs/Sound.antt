@@ -29,6 +29,8 @@ use Rattle.chunk_meaning.proofs.Unrefused.{claims-free}
 use Rattle.fields.proofs.Tests.{clash, never}
 use Rattle.byte_machine.proofs.Passing.{at-stream, at-type, at-length, at-timestamp, either}
 use Rattle.byte_machine.proofs.RowLaws.{Distinct, alone-none, alone-there, distinct-put, find-tells, found, id-put, length-putRow, put-found}
+use Rattle.byte_machine.specs.Setting.{Setting}
+use Rattle.byte_machine.specs.Look.{look}
 
 -- the basic header is whole: a field of the header comes, or payload
 abbrev pub past : Stage → Bool
@@ -124,52 +126,52 @@ module _ (rows : List ℕ) where
   unfolding opens
   opens-stays size r got h = either (StaysAt rows r) (eqb (r .chunk .header .«message_length») 0) (ended-stays r) (go-stays _ h)
 
-  whole-stays : (room size : ℕ) (r : Reader) (time : ℕ) → HasRow rows (r .message .id) → StaysAt rows r (whole room size r time)
+  whole-stays : (setting : Setting) (r : Reader) (time : ℕ) → HasRow rows (r .message .id) → StaysAt rows r (whole setting r time)
   unfolding whole
-  whole-stays room size r time h =
+  whole-stays setting r time h =
       let c = r .chunk in
-      let k = firstRefusal (c .format) (c .header) time room in
+      let k = firstRefusal (c .format) (c .header) time (setting .room) in
       let j = laterRefusal (c .format) (c .before) (c .header) time in
       either (StaysAt rows r) (eqb (r .message .id) 0)
-      (either (StaysAt rows r) (eqb k 0) (opens-stays size _ 0 h) (refuse-stays r k h))
-      (either (StaysAt rows r) (eqb j 0) (opens-stays size _ (r .message .got) h) (refuse-stays r j h))
+      (either (StaysAt rows r) (eqb k 0) (opens-stays (setting .size) _ 0 h) (refuse-stays r k h))
+      (either (StaysAt rows r) (eqb j 0) (opens-stays (setting .size) _ (r .message .got) h) (refuse-stays r j h))
 
-  extended-stays : (room size : ℕ) (r : Reader) → HasRow rows (r .message .id) → StaysAt rows r (extendedNext room size r)
+  extended-stays : (setting : Setting) (r : Reader) → HasRow rows (r .message .id) → StaysAt rows r (extendedNext setting r)
   unfolding extendedNext
-  extended-stays room size r h =
+  extended-stays setting r h =
       either (StaysAt rows r) (eqb (r .chunk .header .«timestamp_field») maxField) (go-stays (at r (ExtendedTimestamp 0 4)) h)
-      (whole-stays room size r (r .chunk .header .«timestamp_field») h)
+      (whole-stays setting r (r .chunk .header .«timestamp_field») h)
 
   -- the next field
   stops-stay : (r : Reader) → HasRow rows (r .message .id) → (field : HeaderField) → eqb (lacks r field) 0 ≡ false
       → StaysAt rows r (go (at r (stageOf field (lacks r field))))
   stops-stay r h field e = go-stays (at r (stageOf field (lacks r field))) h
 
-  stream-stays : (room size : ℕ) (r : Reader) → HasRow rows (r .message .id) → StaysAt rows r (streamNext room size r)
-  stream-stays room size r h = at-stream (StaysAt rows r) room size r (stops-stay r h) (extended-stays room size r h)
+  stream-stays : (setting : Setting) (r : Reader) → HasRow rows (r .message .id) → StaysAt rows r (streamNext setting r)
+  stream-stays setting r h = at-stream (StaysAt rows r) setting r (stops-stay r h) (extended-stays setting r h)
 
-  type-stays : (room size : ℕ) (r : Reader) → HasRow rows (r .message .id) → StaysAt rows r (typeNext room size r)
-  type-stays room size r h = at-type (StaysAt rows r) room size r (stops-stay r h) (extended-stays room size r h)
+  type-stays : (setting : Setting) (r : Reader) → HasRow rows (r .message .id) → StaysAt rows r (typeNext setting r)
+  type-stays setting r h = at-type (StaysAt rows r) setting r (stops-stay r h) (extended-stays setting r h)
 
-  length-stays : (room size : ℕ) (r : Reader) → HasRow rows (r .message .id) → StaysAt rows r (lengthNext room size r)
-  length-stays room size r h = at-length (StaysAt rows r) room size r (stops-stay r h) (extended-stays room size r h)
+  length-stays : (setting : Setting) (r : Reader) → HasRow rows (r .message .id) → StaysAt rows r (lengthNext setting r)
+  length-stays setting r h = at-length (StaysAt rows r) setting r (stops-stay r h) (extended-stays setting r h)
 
-  timestamp-stays : (room size : ℕ) (r : Reader) → HasRow rows (r .message .id) → StaysAt rows r (timestampNext room size r)
-  timestamp-stays room size r h = at-timestamp (StaysAt rows r) room size r (stops-stay r h) (extended-stays room size r h)
+  timestamp-stays : (setting : Setting) (r : Reader) → HasRow rows (r .message .id) → StaysAt rows r (timestampNext setting r)
+  timestamp-stays setting r h = at-timestamp (StaysAt rows r) setting r (stops-stay r h) (extended-stays setting r h)
 
   -- a byte of a header, past its basic header
-  field-stays : (stage : Stage) (room size : ℕ) (r : Reader) (b : ℕ) → past stage ≡ true → HasRow rows (r .message .id)
-      → StaysAt rows r (stepped stage room size rows r b)
+  field-stays : (stage : Stage) (setting : Setting) (r : Reader) (b : ℕ) → past stage ≡ true → HasRow rows (r .message .id)
+      → StaysAt rows r (stepped stage setting (look rows) r b)
   unfolding timestampField lengthField typeField streamField extendedField
-  field-stays AtCsid room size r b p h = never p
-  field-stays (CsidSecond a) room size r b p h = never p
-  field-stays (CsidThird a c) room size r b p h = never p
-  field-stays (InitialTimestamp before lacks) room size r b p h = either (StaysAt rows r) (leb lacks 1) (length-stays room size _ h) (go-stays _ h)
-  field-stays (MessageLength before lacks) room size r b p h = either (StaysAt rows r) (leb lacks 1) (type-stays room size _ h) (go-stays _ h)
-  field-stays MessageTypeId room size r b p h = stream-stays room size _ h
-  field-stays (MessageStreamId before lacks) room size r b p h = either (StaysAt rows r) (leb lacks 1) (extended-stays room size _ h) (go-stays _ h)
-  field-stays (ExtendedTimestamp before lacks) room size r b p h = either (StaysAt rows r) (leb lacks 1) (whole-stays room size r _ h) (go-stays _ h)
-  field-stays MessagePayload room size r b p h = refuse-stays r 255 h
+  field-stays AtCsid setting r b p h = never p
+  field-stays (CsidSecond a) setting r b p h = never p
+  field-stays (CsidThird a c) setting r b p h = never p
+  field-stays (InitialTimestamp before lacks) setting r b p h = either (StaysAt rows r) (leb lacks 1) (length-stays setting _ h) (go-stays _ h)
+  field-stays (MessageLength before lacks) setting r b p h = either (StaysAt rows r) (leb lacks 1) (type-stays setting _ h) (go-stays _ h)
+  field-stays MessageTypeId setting r b p h = stream-stays setting _ h
+  field-stays (MessageStreamId before lacks) setting r b p h = either (StaysAt rows r) (leb lacks 1) (extended-stays setting _ h) (go-stays _ h)
+  field-stays (ExtendedTimestamp before lacks) setting r b p h = either (StaysAt rows r) (leb lacks 1) (whole-stays setting r _ h) (go-stays _ h)
+  field-stays MessagePayload setting r b p h = refuse-stays r 255 h
 
 -- a basic header that is whole gives an id other than 0
 pub csid-used : (P : Csid → Type 0) (bytes : List ℕ) → P Incomplete → ((id : ℕ) → id ≢ 0 → P (Id id)) → P (csid bytes)
@@ -215,27 +217,27 @@ claims-sound rows r format id s n none h =
     rw (lt-ltb p 64 h) rows′
 
 -- the last byte of a basic header
-named-sound : (room size : ℕ) (rows : List ℕ) (r : Reader) (format : ChunkHeaderFormat) (id : ℕ) → Sound rows r → past (r .stage) ≡ false → id ≢ 0
-    → Leaves rows (named room size rows r format id)
+named-sound : (setting : Setting) (rows : List ℕ) (r : Reader) (format : ChunkHeaderFormat) (id : ℕ) → Sound rows r → past (r .stage) ≡ false → id ≢ 0
+    → Leaves rows (named setting (look rows id) r format id)
 unfolding named
-named-sound room size rows r format id s p n =
+named-sound setting rows r format id s p n =
     let inside = not (eqb (r .message .id) 0) in
     let own = eqb (r .message .id) id in
     by-cases (ltb (find rows id) 64) refl (basicRefusal format (ltb (find rows id) 64) (ltb (free rows) 64) inside own) refl
   where
     by-cases : (u : Bool) → ltb (find rows id) 64 ≡ u → (k : ℕ)
         → basicRefusal format u (ltb (free rows) 64) (not (eqb (r .message .id) 0)) (eqb (r .message .id) id) ≡ k
-        → Leaves rows (cond (eqb k 0) (cond u (known room size r format (rowAt rows (find rows id)) (find rows id)) (claims r format id (free rows))) (refuse r k))
+        → Leaves rows (cond (eqb k 0) (cond u (known setting r format (rowAt rows (find rows id)) (find rows id)) (claims r format id (free rows))) (refuse r k))
     by-cases true f k e = stop (eqb k 0)
       where
         at-row : Owns rows (find rows id) (getD rows (6 * find rows id) 0)
         at-row = let h = ltb-true _ _ f in record { inside = h; own = refl; used = rw (find-tells rows id h) n }
 
-        stop : (t : Bool) → Leaves rows (cond t (known room size r format (rowAt rows (find rows id)) (find rows id)) (refuse r k))
+        stop : (t : Bool) → Leaves rows (cond t (known setting r format (rowAt rows (find rows id)) (find rows id)) (refuse r k))
         stop true =
             let row = rowAt rows (find rows id) in
             let r′ = reader (r .stage) (current format (find rows id) row row 0) (r .message) in
-            stays-sound rows _ _ _ (s .long) (s .distinct) at-row (timestamp-stays rows room size r′ (s .begun))
+            stays-sound rows _ _ _ (s .long) (s .distinct) at-row (timestamp-stays rows setting r′ (s .begun))
         stop false = waits-sound rows r r p refl s
     by-cases false f k e = stop (eqb k 0) refl
       where
@@ -253,35 +255,35 @@ named-sound room size rows r format id s p n =
         stop false z = waits-sound rows r r p refl s
 
 -- a byte of a basic header
-basic-sound : (room size : ℕ) (rows : List ℕ) (r : Reader) (bytes : List ℕ) (kept : Stage) → Sound rows r → past (r .stage) ≡ false → past kept ≡ false
-    → Leaves rows (basic room size rows r bytes kept)
-basic-sound room size rows r bytes kept s p q =
+basic-sound : (setting : Setting) (rows : List ℕ) (r : Reader) (bytes : List ℕ) (kept : Stage) → Sound rows r → past (r .stage) ≡ false → past kept ≡ false
+    → Leaves rows (basic setting (look rows) r bytes kept)
+basic-sound setting rows r bytes kept s p q =
     let format = formatOf (getD bytes 0 0) in
-    csid-used (λ c. Leaves rows (basicBy c room size rows r format kept)) bytes (waits-sound rows r (at r kept) q refl s)
-    (λ id n. named-sound room size rows r format id s p n)
+    csid-used (λ c. Leaves rows (basicBy c setting (look rows) r format kept)) bytes (waits-sound rows r (at r kept) q refl s)
+    (λ id n. named-sound setting rows r format id s p n)
 
 -- the chunk that is read has a row
 owned : (rows : List ℕ) (r : Reader) → Owns rows (r .chunk .place) (r .chunk .header .id) → HasRow rows (r .chunk .header .id)
 owned rows r o n = found rows (r .chunk .header .id) (r .chunk .place) (o .inside) (o .own)
 
 -- a byte of a header past its basic header
-field-sound : (stage : Stage) (room size : ℕ) (rows : List ℕ) (r : Reader) (b : ℕ) → past (r .stage) ≡ true → past stage ≡ true → Sound rows r
-    → Leaves rows (stepped stage room size rows r b)
-field-sound stage room size rows r b p q s =
-    stays-sound rows _ _ _ (s .long) (s .distinct) (s .owns p) (field-stays rows stage room size r b q (s .begun))
+field-sound : (stage : Stage) (setting : Setting) (rows : List ℕ) (r : Reader) (b : ℕ) → past (r .stage) ≡ true → past stage ≡ true → Sound rows r
+    → Leaves rows (stepped stage setting (look rows) r b)
+field-sound stage setting rows r b p q s =
+    stays-sound rows _ _ _ (s .long) (s .distinct) (s .owns p) (field-stays rows stage setting r b q (s .begun))
 
 -- a byte, by the stage
-stepped-sound : (stage : Stage) (room size : ℕ) (rows : List ℕ) (r : Reader) (b : ℕ) → r .stage ≡ stage → Sound rows r
-    → Leaves rows (stepped stage room size rows r b)
-stepped-sound AtCsid room size rows r b e s = basic-sound room size rows r (b ∷ []) (CsidSecond b) s (rw e) refl
-stepped-sound (CsidSecond a) room size rows r b e s = basic-sound room size rows r (a ∷ b ∷ []) (CsidThird a b) s (rw e) refl
-stepped-sound (CsidThird a c) room size rows r b e s = basic-sound room size rows r (a ∷ c ∷ b ∷ []) (CsidThird a c) s (rw e) refl
-stepped-sound (InitialTimestamp before lacks) room size rows r b e s = field-sound (InitialTimestamp before lacks) room size rows r b (rw e) refl s
-stepped-sound (MessageLength before lacks) room size rows r b e s = field-sound (MessageLength before lacks) room size rows r b (rw e) refl s
-stepped-sound MessageTypeId room size rows r b e s = field-sound MessageTypeId room size rows r b (rw e) refl s
-stepped-sound (MessageStreamId before lacks) room size rows r b e s = field-sound (MessageStreamId before lacks) room size rows r b (rw e) refl s
-stepped-sound (ExtendedTimestamp before lacks) room size rows r b e s = field-sound (ExtendedTimestamp before lacks) room size rows r b (rw e) refl s
-stepped-sound MessagePayload room size rows r b e s = field-sound MessagePayload room size rows r b (rw e) refl s
+stepped-sound : (stage : Stage) (setting : Setting) (rows : List ℕ) (r : Reader) (b : ℕ) → r .stage ≡ stage → Sound rows r
+    → Leaves rows (stepped stage setting (look rows) r b)
+stepped-sound AtCsid setting rows r b e s = basic-sound setting rows r (b ∷ []) (CsidSecond b) s (rw e) refl
+stepped-sound (CsidSecond a) setting rows r b e s = basic-sound setting rows r (a ∷ b ∷ []) (CsidThird a b) s (rw e) refl
+stepped-sound (CsidThird a c) setting rows r b e s = basic-sound setting rows r (a ∷ c ∷ b ∷ []) (CsidThird a c) s (rw e) refl
+stepped-sound (InitialTimestamp before lacks) setting rows r b e s = field-sound (InitialTimestamp before lacks) setting rows r b (rw e) refl s
+stepped-sound (MessageLength before lacks) setting rows r b e s = field-sound (MessageLength before lacks) setting rows r b (rw e) refl s
+stepped-sound MessageTypeId setting rows r b e s = field-sound MessageTypeId setting rows r b (rw e) refl s
+stepped-sound (MessageStreamId before lacks) setting rows r b e s = field-sound (MessageStreamId before lacks) setting rows r b (rw e) refl s
+stepped-sound (ExtendedTimestamp before lacks) setting rows r b e s = field-sound (ExtendedTimestamp before lacks) setting rows r b (rw e) refl s
+stepped-sound MessagePayload setting rows r b e s = field-sound MessagePayload setting rows r b (rw e) refl s
 
 -- a stage of payload is past the basic header
 pub in-payload-past : (stage : Stage) → inPayload stage ≡ true → past stage ≡ true
@@ -298,13 +300,13 @@ in-payload-past MessagePayload e = refl
 -- a byte
 pub step-sound : (d : Decoder) (b : ℕ) → Sound (d .rows) (d .reader) → Leaves (d .rows) (stepOf d b)
 unfolding stepOf
-step-sound d b s = by-cases (inPayload (d .reader .stage)) (pays (d .room) (d .reader)) refl
+step-sound d b s = by-cases (inPayload (d .reader .stage)) (pays (d .setting .room) (d .reader)) refl
   where
     by-cases : (t u : Bool) → inPayload (d .reader .stage) ≡ t
         → Leaves (d .rows)
-        (cond t (cond u (landed (d .reader) 1) (refuse (d .reader) 255)) (stepped (d .reader .stage) (d .room) (d .«max_chunk_size») (d .rows) (d .reader) b))
+        (cond t (cond u (landed (d .reader) 1) (refuse (d .reader) 255)) (stepped (d .reader .stage) (d .setting) (look (d .rows)) (d .reader) b))
     by-cases true true e =
         let o = s .owns (in-payload-past (d .reader .stage) e) in
         stays-sound (d .rows) _ _ _ (s .long) (s .distinct) o (landed-stays (d .rows) (d .reader) 1 (s .begun) (owned (d .rows) (d .reader) o))
     by-cases true false e = s
-    by-cases false u e = stepped-sound (d .reader .stage) (d .room) (d .«max_chunk_size») (d .rows) (d .reader) b refl s
+    by-cases false u e = stepped-sound (d .reader .stage) (d .setting) (d .rows) (d .reader) b refl s

@@ -1,6 +1,6 @@
 -- Where a decoder stands after a byte: a message's last byte leaves it between messages, and any other byte does not.
 use Prim.Native.Nat.{ℕ, _+_, _-_}
-use mathlib.Core.Bool.{Bool, true, false, and-false, cond}
+use mathlib.Core.Bool.{true, false, and-false, cond}
 use mathlib.Core.List.{List, [], _∷_}
 use mathlib.Core.Logic.{_≢_}
 use mathlib.Core.Path.{_≡_, refl, _∙_}
@@ -8,7 +8,7 @@ use native.Mathlib.Omega.{arith}
 use lib.Dec.{eqb, ltb}
 use lib.ListN.{length}
 use borrow.Author.Tests.{ne-eqb}
-use Rattle.fields.proofs.Tests.{clash, never}
+use Rattle.fields.proofs.Tests.{never}
 use Rattle.byte_machine.specs.Reader.{Event, Go, Chunk, Message, Refuse, Reader, Stage, Csid, CsidSecond, CsidThird, InitialTimestamp, MessageLength, MessageTypeId, MessageStreamId, ExtendedTimestamp, MessagePayload, Stepped, atStart, inPayload}
 use Rattle.byte_machine.specs.Header.{opens}
 use Rattle.byte_machine.specs.Payload.{landed, pays}
@@ -21,6 +21,7 @@ use Rattle.decoding.specs.Told.{between}
 use Rattle.decoding.proofs.Cut.{message-not-more, refused-not-more}
 use Rattle.decoding.proofs.Reached.{Reached, step-reached}
 use Rattle.decoding.proofs.Sound.{in-payload-past}
+use Rattle.byte_machine.specs.Look.{look}
 
 -- what an event says of the reader after it
 abbrev Says : Event → Reader → Type 0
@@ -58,9 +59,9 @@ step-stands : (d : Decoder) (b : ℕ) → Reached d → Stands (stepOf d b)
 unfolding stepOf
 step-stands d b k =
     tested Stands (inPayload (d .reader .stage))
-    (λ e. either Stands (pays (d .room) (d .reader)) (landed-stands (d .reader) 1 e (k .sound .owns (in-payload-past (d .reader .stage) e) .used)) tt)
-    (λ e. header-step Stands (d .reader .message) (d .room) (d .«max_chunk_size») (λ r place q a. a .begun) (λ r k. tt) (λ r got q z. opens-stands (d .«max_chunk_size») r got)
-    (d .reader .stage) (d .rows) (d .reader) b refl)
+    (λ e. either Stands (pays (d .setting .room) (d .reader)) (landed-stands (d .reader) 1 e (k .sound .owns (in-payload-past (d .reader .stage) e) .used)) tt)
+    (λ e. header-step Stands (d .reader .message) (d .setting) (λ r place q a. a .begun) (λ r k. tt) (λ r got q z. opens-stands (d .setting .size) r got)
+    (d .reader .stage) (look (d .rows)) (d .reader) b refl)
 
 pub more-not-message : {A : Type 0} {n type stream time long used : ℕ} → more n ≡ message type stream time long used → A
 more-not-message h = absurd (let z : _≡_ {A = ℕ} 0 1 = cc in omega arith)

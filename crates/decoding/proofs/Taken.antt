@@ -130,14 +130,14 @@ module _ {d : Decoder} {c : Chunk} (t : Takes d c) where
           by-message false e i = let h = has-row (eqb-false _ _ e) in omega (arith, h, none-yet)
 
   -- its message is no longer than the room, and it ends within its message
-  pub ends-within : (done d c ≤ header d c .«message_length») × (header d c .«message_length» ≤ d .room)
+  pub ends-within : (done d c ≤ header d c .«message_length») × (header d c .«message_length» ≤ d .setting .room)
   ends-within = by-message (eqb (d .reader .message .id) 0) refl
     where
-      by-message : (u : Bool) → eqb (d .reader .message .id) 0 ≡ u → (done d c ≤ header d c .«message_length») × (header d c .«message_length» ≤ d .room)
+      by-message : (u : Bool) → eqb (d .reader .message .id) 0 ≡ u → (done d c ≤ header d c .«message_length») × (header d c .«message_length» ≤ d .setting .room)
       by-message true e =
-          let f : firstRefusal (formatFor (c .header)) (header d c) (says (c .extended) (header d c)) (d .room) ≡ 0 = rw e at (t .head) in
+          let f : firstRefusal (formatFor (c .header)) (header d c) (says (c .extended) (header d c)) (d .setting .room) ≡ 0 = rw e at (t .head) in
           let z : got d c ≡ 0 = rw e in
-          (omega (arith, z, t .fits .payload), first-fits (formatFor (c .header)) (header d c) (says (c .extended) (header d c)) (d .room) f)
+          (omega (arith, z, t .fits .payload), first-fits (formatFor (c .header)) (header d c) (says (c .extended) (header d c)) (d .setting .room) f)
       by-message false e =
           let i = length-inside d c (t .reached) (t .basic) (t .head) (eqb-false _ _ e) in
           let g : got d c ≡ d .reader .message .got = rw e in

@@ -11,16 +11,17 @@ use Rattle.decoding.specs.Answer.{Listed, message, more, refused}
 use Rattle.byte_machine.specs.Payload.{landed, pays}
 use Rattle.byte_machine.specs.Step.{stepped}
 use Rattle.byte_machine.specs.Rows.{putAt}
+use Rattle.byte_machine.specs.Look.{look}
 
 -- what a byte does: a byte of a payload that may come is stored at its own place
 unfoldable pub stepOf : Decoder → (byte : ℕ) → Stepped
 stepOf d b =
     cond (inPayload (d .reader .stage))
-    (cond (pays (d .room) (d .reader)) (landed (d .reader) 1) (refuse (d .reader) guard))
-    (stepped (d .reader .stage) (d .room) (d .«max_chunk_size») (d .rows) (d .reader) b)
+    (cond (pays (d .setting .room) (d .reader)) (landed (d .reader) 1) (refuse (d .reader) guard))
+    (stepped (d .reader .stage) (d .setting) (look (d .rows)) (d .reader) b)
 
 unfoldable pub writes : Decoder → (payload : List ℕ) → (byte : ℕ) → List ℕ
-writes d payload b = cond (inPayload (d .reader .stage)) (cond (pays (d .room) (d .reader)) (set payload (d .reader .message .got) b) payload) payload
+writes d payload b = cond (inPayload (d .reader .stage)) (cond (pays (d .setting .room) (d .reader)) (set payload (d .reader .message .got) b) payload) payload
 
 -- a refusal closes the decoder with its own number
 abbrev pub closes : Event → ℕ → ℕ
@@ -39,8 +40,7 @@ isRefusal (Refuse k) = true
 -- a closing refusal changes only the closed number: it leaves the reader and every row as they were
 unfoldable pub after : Decoder → Stepped → Decoder
 after d s = record {
-  room = d .room;
-  «max_chunk_size» = d .«max_chunk_size»;
+  setting = d .setting;
   closed = closes (s .event) (d .closed);
   reader = cond (isRefusal (s .event)) (d .reader) (s .reader);
   rows = cond (isRefusal (s .event)) (d .rows) (putAt (d .rows) (s .place) (s .reader .chunk .header));
@@ -78,5 +78,5 @@ run (b ∷ bs) d payload used =
 unfoldable pub next : Decoder → (input payload : List ℕ) → Outcome
 next d input payload =
     first (outcome (refused (d .closed) 0) d payload when not (eqb (d .closed) 0)
-    ∷ outcome (refused 7 0) d payload when ltb (length payload) (d .room)
+    ∷ outcome (refused 7 0) d payload when ltb (length payload) (d .setting .room)
     ∷ []) (run input d payload 0)

@@ -18,4 +18,4 @@ pub record Ready (d : Decoder) (buffer : List ℕ) : Type 0 where
   pub by-calls : Made d
   pub open-still : d .closed ≡ 0
   pub between-chunks : d .reader .stage ≡ Csid
-  pub long : d .room ≤ length buffer
+  pub long : d .setting .room ≤ length buffer

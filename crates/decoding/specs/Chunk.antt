@@ -60,14 +60,14 @@ module _ (d : Decoder) (c : Chunk) where
   abbrev pub headerRefused : ℕ
   headerRefused =
       cond inside (laterRefusal (formatFor (c .header)) row header (says (c .extended) header))
-      (firstRefusal (formatFor (c .header)) header (says (c .extended) header) (d .room))
+      (firstRefusal (formatFor (c .header)) header (says (c .extended) header) (d .setting .room))
 
   -- the bytes of the message that came before this chunk, and those of this chunk
   abbrev pub got : ℕ
   got = cond inside (d .reader .message .got) 0
 
   abbrev pub left : ℕ
-  left = min (d .«max_chunk_size») (header .«message_length» - got)
+  left = min (d .setting .size) (header .«message_length» - got)
 
   -- what is stored: a first chunk settles the time, a later one leaves it
   abbrev pub stored : Row

@@ -22,7 +22,7 @@ pub record Amid (d : Decoder) (place : ℕ) (row : Row) : Type 0 where
   pub found : place < rowCount
   pub held : rowAt (d .rows) place ≡ row
   pub plain : row .«timestamp_field» ≢ maxField
-  pub fits : row .«message_length» ≤ d .room
+  pub fits : row .«message_length» ≤ d .setting .room
 
 -- the next chunk is of type 3, whole in the input, and not the message's last: `left` bytes after its first
 pub record Next (input : List ℕ) (at id got long left : ℕ) : Type 0 where
@@ -39,8 +39,7 @@ Stops b input at id got long left = b ≡ false → Next input at id got long le
 -- after such chunks
 abbrev pub gone : Decoder → (place : ℕ) → Row → (got : ℕ) → Decoder
 gone d place row got = record {
-  room = d .room;
-  «max_chunk_size» = d .«max_chunk_size»;
+  setting = d .setting;
   closed = d .closed;
   reader = reader Csid (current Empty place row row 0) (unfinished (row .id) got);
   rows = d .rows;

@@ -13,7 +13,7 @@ use Rattle.chunk_header.specs.Table.{formatOf, headerLength, typeOf}
 use Rattle.decoding.specs.Decoder.{Decoder}
 use Rattle.byte_machine.specs.Reader.{Reader, Csid, Stepped, Unfinished, reading}
 use Rattle.chunk_meaning.specs.Stored.{Row, timed}
-use Rattle.decoding.specs.Call.{after, run}
+use Rattle.decoding.specs.Call.{after}
 use Rattle.byte_machine.specs.Header.{opens}
 use Rattle.chunk_meaning.specs.Meaning.{firstRefusal, firstTime, laterRefusal}
 use Rattle.byte_machine.specs.Rows.{find, rowCount}

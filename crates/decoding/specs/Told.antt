@@ -9,6 +9,7 @@ use Rattle.chunk_header.specs.declared.ChunkHeaderFormat.the-variants.{Full}
 use Rattle.chunk_header.specs.Limits.{initialSize, maxLength, maxSize}
 use Rattle.decoding.specs.Decoder.{Decoder}
 use Rattle.byte_machine.specs.Reader.{Reader, Csid, atStart, current, nowhere, reader, unfinished}
+use Rattle.byte_machine.specs.Setting.{setting}
 use Rattle.byte_machine.specs.Rows.{rowCount, rowLength}
 use Rattle.chunk_meaning.specs.Stored.{claimed}
 
@@ -34,7 +35,7 @@ abbrev pub between : Reader → Bool
 between r = atStart (r .stage) && eqb (r .message .id) 0
 
 abbrev pub sized : Decoder → (size : ℕ) → Decoder
-sized d size = record { room = d .room; «max_chunk_size» = size; closed = d .closed; reader = d .reader; rows = d .rows }
+sized d size = record { setting = setting (d .setting .room) size; closed = d .closed; reader = d .reader; rows = d .rows }
 
 -- "closed, 3, 4, 8"
 unfoldable pub told : Decoder → (size : ℕ) → Outcome
@@ -48,8 +49,7 @@ told d size =
 -- a decoder to which nothing has come: no row is used
 abbrev pub fresh : (room closed : ℕ) → Decoder
 fresh room closed = record {
-  room = room;
-  «max_chunk_size» = initialSize;
+  setting = setting room initialSize;
   closed = closed;
   reader = reader Csid (current Full nowhere (claimed 0) (claimed 0) 0) (unfinished 0 0);
   rows = replicate (rowCount * rowLength) 0;

@@ -9,9 +9,9 @@ use Rattle.byte_machine.specs.Reader.{inPayload}
 -- an open decoder in a payload, a piece of so many bytes that ends before the chunk does, and a buffer of so many
 pub record Lies (d : Decoder) (length lent : ℕ) : Type 0 where
   pub open-still : d .closed ≡ 0
-  pub room : d .room ≤ lent
+  pub room : d .setting .room ≤ lent
   pub stage : inPayload (d .reader .stage) ≡ true
-  pub ends : d .reader .message .got + d .reader .chunk .left ≤ d .room
+  pub ends : d .reader .message .got + d .reader .chunk .left ≤ d .setting .room
   pub some : 0 < length
   pub short : length < d .reader .chunk .left
 
@@ -22,8 +22,7 @@ Within b d length lent = b ≡ true → Lies d length lent
 -- the decoder after it
 abbrev pub nearer : Decoder → ℕ → Decoder
 nearer d n = record {
-  room = d .room;
-  «max_chunk_size» = d .«max_chunk_size»;
+  setting = d .setting;
   closed = d .closed;
   reader = paid (d .reader) (d .reader .message .got + n) (d .reader .chunk .left - n);
   rows = d .rows;

@@ -83,7 +83,7 @@ impl ChunkDeserializer {
 
     // The chunk size in force.
     pub fn get_max_chunk_size(self) -> u32
-        ensures { λ r. ⌜ r ≡ meant self .«max_chunk_size» ⌝ }
+        ensures { λ r. ⌜ r ≡ meant self .setting .size ⌝ }
     {
         get_max_chunk_size(&self.held)
     }

@@ -7,7 +7,6 @@ use mathlib.Core.List.{List}
 use native.Mathlib.Omega.{arith}
 use Rattle.chunk_header.specs.declared.ChunkHeaderFormat.{ChunkHeaderFormat}
 use Rattle.chunk_header.specs.declared.ChunkHeaderFormat.the-variants.{Full, TimeDeltaWithoutMessageStreamId, TimeDeltaOnly, Empty}
-use Rattle.chunk_header.specs.Table.{typeOf}
 use Rattle.chunk_meaning.specs.Meaning.{basicRefusal}
 use Rattle.byte_machine.specs.Reader.{Event, Go, Chunk, Message, Refuse, Reader, Stepped}
 use Rattle.byte_machine.specs.Rows.{putAt}
@@ -15,13 +14,13 @@ use Rattle.decoding.specs.Call.{after}
 use Rattle.held.specs.declared.numbers.Held.{Held}
 use Rattle.held.specs.Done.{doneOf, eventOf, refusalOf}
 use Rattle.header_in_place.specs.Byte.{Left}
-use Rattle.held.specs.Numbers.{formatFrom, heldOf, meant, numbersOf, readerFrom, rowFrom}
+use Rattle.held.specs.Numbers.{heldOf, meant, numbersOf, readerFrom, rowFrom, settingIn}
 
 abbrev step : Reader → Event → ℕ → Stepped
 step r e p = record { reader = r; event = e; place = p }
 
 pub left-refused : (h : Held) (rows : List ℕ) (r : Reader) (e : Event) (p : ℕ) → eventOf e ≡ 3
-    → Left 3 (numbersOf (heldOf (h .room) (h .size) (refusalOf e) (readerFrom h))) rows (meant h rows) (step r e p)
+    → Left 3 (numbersOf (heldOf (settingIn h) (refusalOf e) (readerFrom h))) rows (meant h rows) (step r e p)
 unfolding after
 left-refused h rows r Go p q = absurd (omega (arith, q))
 left-refused h rows r Chunk p q = absurd (omega (arith, q))

@@ -18,14 +18,16 @@ use Rattle.byte_machine.specs.Step.{basicBy, claims, known, named, stepped}
 use Rattle.byte_machine.proofs.Naming.{named-refused, named-known, named-claims}
 use Rattle.held.specs.declared.numbers.Held.{Held}
 use Rattle.held.specs.Done.{doneOf}
-use Rattle.held.specs.Numbers.{codeOf, formatFrom, readerFrom, stageFrom}
+use Rattle.held.specs.Numbers.{codeOf, formatFrom, readerFrom, settingIn, stageFrom}
 use Rattle.held.proofs.Formats.{from-again}
 use Rattle.header_in_place.specs.Byte.{bytesOf, keptOf}
 use Rattle.header_in_place.proofs.Keeping.{free-known}
+use Rattle.byte_machine.specs.Setting.{Setting}
+use Rattle.byte_machine.specs.Look.{look, Look}
 
 module _ (h : Held) (rows : List ℕ) (first id format place k : ℕ) (t : format ≡ typeOf (formatOf first)) (p : place ≡ find rows id) where
   abbrev said : Stepped
-  said = named (h .room) (h .size) rows (readerFrom h) (formatOf first) id
+  said = named (settingIn h) (look rows id) (readerFrom h) (formatOf first) id
 
   same-format : formatFrom format ≡ formatOf first
   same-format = ap (λ (n : ℕ). formatFrom n) t ∙ from-again (formatOf first)
@@ -39,12 +41,12 @@ module _ (h : Held) (rows : List ℕ) (first id format place k : ℕ) (t : forma
         ∙ ap (λ (b : Bool). basicRefusal (formatOf first) b (ltb (free rows) 64) (not (eqb (h .id) 0)) (eqb (h .id) id)) (sym (lt-ltb place 64 there))
 
     pub row-refused : k ≢ 0 → doneOf h (refuse (readerFrom h) k) ≡ doneOf h said
-    row-refused n = ap (λ (s : Stepped). doneOf h s) (named-refused (h .room) (h .size) rows (readerFrom h) (formatOf first) id place (free rows) k p refl of-row n)
+    row-refused n = ap (λ (s : Stepped). doneOf h s) (named-refused (settingIn h) rows (readerFrom h) (formatOf first) id place (free rows) k p refl of-row n)
 
-    pub row-known : k ≡ 0 → doneOf h (known (h .room) (h .size) (readerFrom h) (formatFrom format) (rowAt rows place) place) ≡ doneOf h said
+    pub row-known : k ≡ 0 → doneOf h (known (settingIn h) (readerFrom h) (formatFrom format) (rowAt rows place) place) ≡ doneOf h said
     row-known z =
-        ap (λ (f : ChunkHeaderFormat). doneOf h (known (h .room) (h .size) (readerFrom h) f (rowAt rows place) place)) same-format
-        ∙ ap (λ (s : Stepped). doneOf h s) (named-known (h .room) (h .size) rows (readerFrom h) (formatOf first) id place (free rows) k p refl of-row z there)
+        ap (λ (f : ChunkHeaderFormat). doneOf h (known (settingIn h) (readerFrom h) f (rowAt rows place) place)) same-format
+        ∙ ap (λ (s : Stepped). doneOf h s) (named-known (settingIn h) rows (readerFrom h) (formatOf first) id place (free rows) k p refl of-row z there)
 
   module _ (unused : ℕ) (u : unused ≡ free rows) (e : k ≡ basicRefusal (formatFrom format) false (ltb unused 64) (not (eqb (h .id) 0)) (eqb (h .id) id)) (none : 64 ≤ place) where
     of-none : k ≡ basicRefusal (formatOf first) (ltb place 64) (ltb unused 64) (not (eqb (h .id) 0)) (eqb (h .id) id)
@@ -54,25 +56,25 @@ module _ (h : Held) (rows : List ℕ) (first id format place k : ℕ) (t : forma
         ∙ ap (λ (b : Bool). basicRefusal (formatOf first) b (ltb unused 64) (not (eqb (h .id) 0)) (eqb (h .id) id)) (sym (le-ltb place 64 none))
 
     pub new-refused : k ≢ 0 → doneOf h (refuse (readerFrom h) k) ≡ doneOf h said
-    new-refused n = ap (λ (s : Stepped). doneOf h s) (named-refused (h .room) (h .size) rows (readerFrom h) (formatOf first) id place unused k p u of-none n)
+    new-refused n = ap (λ (s : Stepped). doneOf h s) (named-refused (settingIn h) rows (readerFrom h) (formatOf first) id place unused k p u of-none n)
 
     pub new-claims : k ≡ 0 → doneOf h (claims (readerFrom h) (formatFrom format) id unused) ≡ doneOf h said
     new-claims z =
         ap (λ (f : ChunkHeaderFormat). doneOf h (claims (readerFrom h) f id unused)) same-format
-        ∙ ap (λ (s : Stepped). doneOf h s) (named-claims (h .room) (h .size) rows (readerFrom h) (formatOf first) id place unused k p u of-none z none)
+        ∙ ap (λ (s : Stepped). doneOf h s) (named-claims (settingIn h) rows (readerFrom h) (formatOf first) id place unused k p u of-none z none)
 
 -- a byte of a basic header
-pub basic-at : (st : Stage) (room size : ℕ) (rows : List ℕ) (r : Reader) (b : ℕ) → codeOf st < 3
-    → basicBy (csid (bytesOf st b)) room size rows r (formatOf (getD (bytesOf st b) 0 0)) (keptOf st b) ≡ stepped st room size rows r b
-basic-at Csid room size rows r b h = refl
-basic-at (CsidSecond a) room size rows r b h = refl
-basic-at (CsidThird a c) room size rows r b h = refl
-basic-at (InitialTimestamp n l) room size rows r b h = absurd (omega (arith, h))
-basic-at (MessageLength n l) room size rows r b h = absurd (omega (arith, h))
-basic-at MessageTypeId room size rows r b h = absurd (omega (arith, h))
-basic-at (MessageStreamId n l) room size rows r b h = absurd (omega (arith, h))
-basic-at (ExtendedTimestamp n l) room size rows r b h = absurd (omega (arith, h))
-basic-at MessagePayload room size rows r b h = absurd (omega (arith, h))
+pub basic-at : (st : Stage) (setting : Setting) (ask : ℕ → Look) (r : Reader) (b : ℕ) → codeOf st < 3
+    → basicBy (csid (bytesOf st b)) setting ask r (formatOf (getD (bytesOf st b) 0 0)) (keptOf st b) ≡ stepped st setting ask r b
+basic-at Csid setting ask r b h = refl
+basic-at (CsidSecond a) setting ask r b h = refl
+basic-at (CsidThird a c) setting ask r b h = refl
+basic-at (InitialTimestamp n l) setting ask r b h = absurd (omega (arith, h))
+basic-at (MessageLength n l) setting ask r b h = absurd (omega (arith, h))
+basic-at MessageTypeId setting ask r b h = absurd (omega (arith, h))
+basic-at (MessageStreamId n l) setting ask r b h = absurd (omega (arith, h))
+basic-at (ExtendedTimestamp n l) setting ask r b h = absurd (omega (arith, h))
+basic-at MessagePayload setting ask r b h = absurd (omega (arith, h))
 
 -- a basic header of two bytes or three keeps its first
 pub kept-first : (s n l b : ℕ) → s ≢ 0 → s < 3 → getD (bytesOf (stageFrom s n l) b) 0 0 ≡ n

@@ -8,10 +8,11 @@ use Rattle.decoding.specs.Call.{after}
 use Rattle.decoding.specs.Decoder.{Decoder}
 use Rattle.held.specs.Done.{eventOf}
 use Rattle.held.specs.Numbers.{encode}
+use Rattle.byte_machine.specs.Look.{look}
 
 -- a byte of a header
 abbrev pub stepIn : Decoder → (byte : ℕ) → Stepped
-stepIn d b = stepped (d .reader .stage) (d .room) (d .«max_chunk_size») (d .rows) (d .reader) b
+stepIn d b = stepped (d .reader .stage) (d .setting) (look (d .rows)) (d .reader) b
 
 -- what a byte of a header leaves of a decoder that is lent
 pub record Left (event : ℕ) (held rows : List ℕ) (d : Decoder) (s : Stepped) : Type 0 where

@@ -1,6 +1,7 @@
 // The basic header.
 ghost use mathlib.Core.Path.{_≡_};
 ghost use mathlib.Core.List.{[], _∷_};
+ghost use Rattle.byte_machine.specs.Look.{look};
 ghost use Rattle.byte_machine.specs.Reader.{at, go};
 ghost use Prim.Native.Nat.{_≤_, _<_};
 ghost use lib.ListN.{getD};
@@ -9,7 +10,7 @@ ghost use Rattle.chunk_header.specs.Table.{formatOf, typeOf};
 ghost use Rattle.byte_machine.specs.Step.{claims as Machine·claims, known as Machine·known, named as Machine·named};
 ghost use Rattle.held.specs.Done.{doneOf};
 ghost use Rattle.header_in_place.specs.Byte.{bytesOf, keptOf, stepIn};
-ghost use Rattle.held.specs.Numbers.{formatFrom, meant, readerFrom, rowFrom, stageIn};
+ghost use Rattle.held.specs.Numbers.{formatFrom, meant, readerFrom, rowFrom, settingIn, stageIn};
 use chunk_header::Csid;
 use held::Done;
 use held::Held;
@@ -41,7 +42,7 @@ fn type_in(first: u32) -> u32
 // A chunk of a stream that has a row.
 fn known(h: Held, format: u32, row: HeldRow, place: u32) -> Done
     requires { ⌜ format ≤ 3 ⌝ }
-    ensures { λ r. ⌜ r ≡ doneOf h (Machine·known (h .room) (h .size) (readerFrom h) (formatFrom format) (rowFrom row) place) ⌝ }
+    ensures { λ r. ⌜ r ≡ doneOf h (Machine·known (settingIn h) (readerFrom h) (formatFrom format) (rowFrom row) place) ⌝ }
 {
     timestamp_next(Held {
         room: h.room,
@@ -98,7 +99,7 @@ fn claims(h: Held, format: u32, id: u32, place: u32) -> Done
 
 // The last byte of a basic header that says this id.
 fn named(h: Held, rows: &[u32; 384], first: u32, id: u32) -> Done
-    ensures { λ r. ⌜ r ≡ doneOf h (Machine·named (h .room) (h .size) (now (rows .entry)) (readerFrom h) (formatOf first) id) ⌝ }
+    ensures { λ r. ⌜ r ≡ doneOf h (Machine·named (settingIn h) (look (now (rows .entry)) id) (readerFrom h) (formatOf first) id) ⌝ }
 {
     let format = type_in(first);
     let place = find(rows, id);

@@ -3,7 +3,7 @@ ghost use mathlib.Core.Path.{_≡_};
 ghost use Prim.Native.Nat.{_≤_};
 ghost use Rattle.byte_machine.specs.Step.{extendedField, gathered as Machine·gathered, lengthField, streamField, timestampField, typeField};
 ghost use Rattle.held.specs.Done.{doneOf};
-ghost use Rattle.held.specs.Numbers.{readerFrom};
+ghost use Rattle.held.specs.Numbers.{readerFrom, settingIn};
 use fields::swap_bytes;
 use held::Done;
 use held::Held;
@@ -23,7 +23,7 @@ fn gathered(before: u32, byte: u8) -> u32
 
 pub fn timestamp_byte(h: Held, byte: u8) -> Done
     requires { ⌜ h .format ≤ 3 ⌝ }
-    ensures { λ r. ⌜ r ≡ doneOf h (timestampField (h .room) (h .size) (readerFrom h) (h .number) (h .lacks) byte) ⌝ }
+    ensures { λ r. ⌜ r ≡ doneOf h (timestampField (settingIn h) (readerFrom h) (h .number) (h .lacks) byte) ⌝ }
 {
     let number = gathered(h.number, byte);
     if h.lacks <= 1 {
@@ -36,7 +36,7 @@ pub fn timestamp_byte(h: Held, byte: u8) -> Done
 
 pub fn length_byte(h: Held, byte: u8) -> Done
     requires { ⌜ h .format ≤ 3 ⌝ }
-    ensures { λ r. ⌜ r ≡ doneOf h (lengthField (h .room) (h .size) (readerFrom h) (h .number) (h .lacks) byte) ⌝ }
+    ensures { λ r. ⌜ r ≡ doneOf h (lengthField (settingIn h) (readerFrom h) (h .number) (h .lacks) byte) ⌝ }
 {
     let number = gathered(h.number, byte);
     if h.lacks <= 1 {
@@ -49,7 +49,7 @@ pub fn length_byte(h: Held, byte: u8) -> Done
 
 pub fn type_byte(h: Held, byte: u8) -> Done
     requires { ⌜ h .format ≤ 3 ⌝ }
-    ensures { λ r. ⌜ r ≡ doneOf h (typeField (h .room) (h .size) (readerFrom h) byte) ⌝ }
+    ensures { λ r. ⌜ r ≡ doneOf h (typeField (settingIn h) (readerFrom h) byte) ⌝ }
 {
     let kind = byte as u32;
     let mut next = h;
@@ -59,7 +59,7 @@ pub fn type_byte(h: Held, byte: u8) -> Done
 
 pub fn stream_byte(h: Held, byte: u8) -> Done
     requires { ⌜ h .format ≤ 3 ⌝ }
-    ensures { λ r. ⌜ r ≡ doneOf h (streamField (h .room) (h .size) (readerFrom h) (h .number) (h .lacks) byte) ⌝ }
+    ensures { λ r. ⌜ r ≡ doneOf h (streamField (settingIn h) (readerFrom h) (h .number) (h .lacks) byte) ⌝ }
 {
     let number = gathered(h.number, byte);
     if h.lacks <= 1 {
@@ -73,7 +73,7 @@ pub fn stream_byte(h: Held, byte: u8) -> Done
 
 pub fn extended_byte(h: Held, byte: u8) -> Done
     requires { ⌜ h .format ≤ 3 ⌝ }
-    ensures { λ r. ⌜ r ≡ doneOf h (extendedField (h .room) (h .size) (readerFrom h) (h .number) (h .lacks) byte) ⌝ }
+    ensures { λ r. ⌜ r ≡ doneOf h (extendedField (settingIn h) (readerFrom h) (h .number) (h .lacks) byte) ⌝ }
 {
     let number = gathered(h.number, byte);
     if h.lacks <= 1 {

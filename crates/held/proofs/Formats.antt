@@ -1,17 +1,17 @@
 -- Formats by their numbers: which fields a chunk has, and what a byte that only goes on leaves.
 use Prim.Native.Nat.{ℕ, zero, suc, _/_, _≤_, _<_}
-use mathlib.Core.Path.{_≡_, refl, _∙_}
+use mathlib.Core.Path.{_≡_, refl}
 use mathlib.Core.Logic.{_≢_}
 use mathlib.Core.Bool.{Bool, true, false, cond}
 use native.Mathlib.Omega.{arith}
 use mathlib.Core.List.{[], _∷_}
 use lib.Dec.{eqb}
 use lib.ListN.{getD}
-use borrow.Author.Tests.{ne-eqb, le-leb, lt-leb}
+use borrow.Author.Tests.{ne-eqb}
 use Rattle.chunk_header.specs.declared.ChunkHeaderFormat.{ChunkHeaderFormat}
 use Rattle.chunk_header.specs.declared.ChunkHeaderFormat.the-variants.{Full, TimeDeltaWithoutMessageStreamId, TimeDeltaOnly, Empty}
-use Rattle.chunk_header.specs.Table.{isEmpty, isFull, typeOf, fieldLength, formatOf}
-use Rattle.byte_machine.specs.Reader.{Stage, InitialTimestamp, MessageLength, MessageTypeId, MessageStreamId, at, go}
+use Rattle.chunk_header.specs.Table.{isEmpty, isFull, typeOf, formatOf}
+use Rattle.byte_machine.specs.Reader.{Stage, at, go}
 use Rattle.held.specs.declared.numbers.Held.{Held}
 use Rattle.held.specs.Done.{doneOf, goesTo}
 use Rattle.held.specs.Numbers.{codeOf, formatFrom, lacksOf, numberOf, readerFrom}

@@ -8,6 +8,7 @@ use Rattle.chunk_meaning.specs.Stored.{row}
 use Rattle.decoding.specs.Told.{fresh}
 use Rattle.decoding.specs.Decoder.{Decoder}
 use Rattle.held.specs.Numbers.{again, decode, encode, formatFrom, stageFrom}
+use Rattle.byte_machine.specs.Setting.{setting}
 
 -- a decoder to which nothing has come, of 4096 bytes of room
 fresh-numbers : encode (fresh 4096 0)
@@ -17,8 +18,7 @@ fresh-numbers = refl
 -- two bytes of a time have come, 1 and 2, of a chunk of type 2 of stream 5, whose row is the third and has 40 ms, 7 bytes, type 9
 abbrev begun : Decoder
 begun = record {
-  room = 4096;
-  «max_chunk_size» = 128;
+  setting = setting 4096 128;
   closed = 0;
   reader = reader (InitialTimestamp 258 1) (current TimeDeltaOnly 2 (row 5 40 40 7 9 1) (row 5 40 40 7 9 1) 0) (unfinished 0 0);
   rows = [];

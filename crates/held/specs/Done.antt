@@ -5,7 +5,7 @@ use Rattle.byte_machine.specs.Reader.{Event, Go, Chunk, Message, Refuse, Steppe
 use Rattle.decoding.specs.Call.{isRefusal}
 use Rattle.held.specs.declared.numbers.Held.{Held}
 use Rattle.held.specs.declared.numbers.Done.{Done}
-use Rattle.held.specs.Numbers.{heldOf, heldRow}
+use Rattle.held.specs.Numbers.{heldOf, heldRow, settingIn}
 
 -- what a byte settled: 0 nothing, 1 a chunk, 2 a message, 3 a refusal
 abbrev pub eventOf : Event → ℕ
@@ -28,7 +28,7 @@ nothing = record { room = 0; size = 0; closed = 0; stage = 0; number = 0; lacks 
 -- a step as numbers, beside the room, the size and the closed number of a decoder
 abbrev pub doneOf : Held → Stepped → Done
 doneOf h s = record {
-  held = cond (isRefusal (s .event)) nothing (heldOf (h .room) (h .size) (h .closed) (s .reader));
+  held = cond (isRefusal (s .event)) nothing (heldOf (settingIn h) (h .closed) (s .reader));
   event = eventOf (s .event);
   number = refusalOf (s .event);
   place = s .place;

@@ -20,6 +20,7 @@ use Rattle.chunk_header.specs.declared.ChunkHeaderFormat.{ChunkHeaderFormat}
 use Rattle.chunk_header.specs.declared.ChunkHeaderFormat.the-variants.{Full, TimeDeltaWithoutMessageStreamId, TimeDeltaOnly, Empty}
 use Rattle.chunk_header.specs.Table.{typeOf}
 use Rattle.chunk_meaning.specs.Stored.{Row, row}
+use Rattle.byte_machine.specs.Setting.{Setting, setting}
 use Rattle.byte_machine.specs.Reader.{Reader, Stage, Csid, CsidSecond, CsidThird, InitialTimestamp, MessageLength, MessageTypeId, MessageStreamId, ExtendedTimestamp, MessagePayload, current, reader, unfinished}
 use Rattle.decoding.specs.Decoder.{Decoder}
 use Rattle.held.specs.declared.numbers.Held.{Held}
@@ -99,10 +100,13 @@ readerFrom h =
     (current (formatFrom (h .format)) (h .place) (rowFrom (h .before)) (rowFrom (h .header)) (h .left))
     (unfinished (h .id) (h .got))
 
-abbrev pub heldOf : (room size closed : ℕ) → Reader → Held
-heldOf room size closed r = record {
-  room = room;
-  size = size;
+abbrev pub settingIn : Held → Setting
+settingIn h = setting (h .room) (h .size)
+
+abbrev pub heldOf : Setting → (closed : ℕ) → Reader → Held
+heldOf s closed r = record {
+  room = s .room;
+  size = s .size;
   closed = closed;
   stage = codeOf (r .stage);
   number = numberOf (r .stage);
@@ -146,13 +150,13 @@ numbersOf h =
 
 -- the decoder that numbers mean, and the numbers that stand for a decoder
 abbrev pub meant : Held → (rows : List ℕ) → Decoder
-meant h rows = record { room = h .room; «max_chunk_size» = h .size; closed = h .closed; reader = readerFrom h; rows = rows }
+meant h rows = record { setting = settingIn h; closed = h .closed; reader = readerFrom h; rows = rows }
 
 abbrev pub decode : (held rows : List ℕ) → Decoder
 decode held rows = meant (heldIn held) rows
 
 abbrev pub encode : Decoder → List ℕ
-encode d = numbersOf (heldOf (d .room) (d .«max_chunk_size») (d .closed) (d .reader))
+encode d = numbersOf (heldOf (d .setting) (d .closed) (d .reader))
 
 -- the same decoder, in the numbers that stand for it
 abbrev pub again : (held : List ℕ) → List ℕ

@@ -1,7 +1,7 @@
 // The numbers that stand for what numbers mean.
 ghost use mathlib.Core.Path.{_≡_};
 ghost use Prim.Native.Nat.{_≤_};
-ghost use Rattle.held.specs.Numbers.{again, codeOf, heldOf, lacksOf, numberOf, readerFrom, stageFrom};
+ghost use Rattle.held.specs.Numbers.{again, codeOf, heldOf, lacksOf, numberOf, readerFrom, settingIn, stageFrom};
 use crate::numbers::Held;
 use crate::numbers::held_in;
 use crate::numbers::numbers_of;
@@ -52,7 +52,7 @@ fn stage_lacks(stage: u32, number: u32, lacks: u32) -> u32
 // A decoder that is closed with a number.
 pub fn shut(h: Held, closed: u32) -> Held
     requires { ⌜ h .format ≤ 3 ⌝ }
-    ensures { λ r. ⌜ r ≡ heldOf (h .room) (h .size) closed (readerFrom h) ⌝ }
+    ensures { λ r. ⌜ r ≡ heldOf (settingIn h) closed (readerFrom h) ⌝ }
 {
     let stage = stage_code(h.stage, h.number, h.lacks);
     let number = stage_number(h.stage, h.number, h.lacks);

@@ -19,7 +19,7 @@ use Rattle.decoding.specs.Decoder.{Decoder}
 use Rattle.decoding.proofs.Cut.{run-shift, shift}
 use Rattle.decoding.proofs.FurtherOn.{amid-at, amid-gone, further-runs, put-own}
 use Rattle.held.specs.declared.numbers.HeldRow.{HeldRow}
-use Rattle.held.specs.Numbers.{decode, encode, heldIn, heldRowOf, numbersOf, readerFrom}
+use Rattle.held.specs.Numbers.{decode, encode, heldRowOf, numbersOf}
 use Rattle.held.proofs.Again.{decode-encode}
 use Rattle.held.proofs.Stages.{is-csid}
 use Rattle.in_place.specs.declared.further.Gone.{Gone}

@@ -42,7 +42,7 @@ pub record Goes (g : Gone) (size id long come : ℕ) (input : List ℕ) (start :
   pub still : g .at ≡ start → g .got ≡ come
   pub none : g .at ≡ start → payload′ ≡ payload
   pub first : g .at ≢ start → Next input start id come long (min size (long - come))
-  pub runs : (d : Decoder) (place : ℕ) (r : Row) → d .«max_chunk_size» ≡ size → r .id ≡ id → r .«message_length» ≡ long
+  pub runs : (d : Decoder) (place : ℕ) (r : Row) → d .setting .size ≡ size → r .id ≡ id → r .«message_length» ≡ long
       → Amid (gone d place r come) place r
       → putRow (d .rows) place r ≡ d .rows
       → run (drop start input) (gone d place r come) payload start

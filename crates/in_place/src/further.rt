@@ -1,7 +1,6 @@
 // Further chunks of the unfinished message, of type 3 and whole in the input, taken one after the other.
 ghost use mathlib.Core.Path.{_≡_};
 ghost use Prim.Native.Nat.{_+_, _*_, _≤_, _<_};
-ghost use lib.Dec.{leb};
 ghost use lib.ListN.{drop, getD, length as ListN·length, take};
 ghost use lib.Seq.{sets};
 ghost use Rattle.decoding.specs.Further.{Stops};

@@ -114,7 +114,7 @@ module _ {S : Type 0} (t : Teller S) where
   spent-before messages f (closed n) = closed n
   spent-before messages f (short l) = short l
 
-  fewer : (n : ℕ) (x : ℕ) (bytes : List ℕ) (s : Stand S) → s .decoder .closed ≡ 0 → s .decoder .room ≤ length (s .buffer) → length (x ∷ bytes) ≤ n
+  fewer : (n : ℕ) (x : ℕ) (bytes : List ℕ) (s : Stand S) → s .decoder .closed ≡ 0 → s .decoder .setting .room ≤ length (s .buffer) → length (x ∷ bytes) ≤ n
       → length (call t (take n (x ∷ bytes)) s .unread ++ drop n (x ∷ bytes)) ≤ length bytes
   fewer n x bytes s e l h =
       let u = call-uses t x bytes s e l in
@@ -144,7 +144,7 @@ module _ {S : Type 0} (t : Teller S) where
       by-use (closes n′) bytes h k later =
           closed (subst (λ (f : Fed S). f .stand .decoder .closed ≢ 0) (sym (stays s (λ piece. call-closed t piece s n′) (map offer (replicate (suc times) n)) bytes)) n′)
       by-use (shorter e l) bytes h k later =
-          short (subst (λ (f : Fed S). length (f .stand .buffer) < f .stand .decoder .room) (sym (stays s (λ piece. call-short t piece s l) (map offer (replicate (suc times) n)) bytes)) l)
+          short (subst (λ (f : Fed S). length (f .stand .buffer) < f .stand .decoder .setting .room) (sym (stays s (λ piece. call-short t piece s l) (map offer (replicate (suc times) n)) bytes)) l)
 
   -- a call that is offered all
   whole-piece : (a : List ℕ) (s : Stand S) → feed t (offer (length a) ∷ []) s a ≡ call t a s

@@ -17,9 +17,9 @@ use Rattle.decoding.proofs.Numbered.{run-refused}
 -- no call can use more of it
 pub data Stuck {S : Type 0} (s : Stand S) : Type 0 where
   closed-now : s .decoder .closed ≢ 0 → Stuck s
-  short-now : length (s .buffer) < s .decoder .room → Stuck s
+  short-now : length (s .buffer) < s .decoder .setting .room → Stuck s
 
-pub stuck-end : {S : Type 0} (s : Stand S) → Stuck s → s .decoder .closed ≡ 0 → s .decoder .room ≤ length (s .buffer) → ⊥
+pub stuck-end : {S : Type 0} (s : Stand S) → Stuck s → s .decoder .closed ≡ 0 → s .decoder .setting .room ≤ length (s .buffer) → ⊥
 stuck-end s (closed-now n) e l = n e
 stuck-end s (short-now k) e l = omega (arith, k, l)
 
@@ -45,7 +45,7 @@ module _ {S : Type 0} (t : Teller S) where
           subst (λ (x : Stand S). Stuck x) (sym c) (closed-now n)
 
   none-refused : (moves : List Move) (s : Stand S) (unread : List ℕ) → feed t moves s unread .stand .decoder .closed ≡ 0
-      → feed t moves s unread .stand .decoder .room ≤ length (feed t moves s unread .stand .buffer)
+      → feed t moves s unread .stand .decoder .setting .room ≤ length (feed t moves s unread .stand .buffer)
       → refusals t moves s unread ≡ []
   none-refused [] s unread e l = refl
   none-refused (arrive bytes ∷ moves) s unread e l = none-refused moves s (unread ++ bytes) e l
@@ -61,7 +61,7 @@ module _ {S : Type 0} (t : Teller S) where
       by-answer (refused k m) h later =
           let stuck = refused-stuck (take n unread) s k m h in
           let same : feed t moves (c .stand) (c .unread ++ drop n unread) .stand ≡ c .stand = stuck-stays moves (c .stand) (c .unread ++ drop n unread) stuck in
-          absurd (stuck-end (c .stand) stuck (ap (λ (x : Stand S). x .decoder .closed) (sym same) ∙ e) (subst (λ (x : Stand S). x .decoder .room ≤ length (x .buffer)) same l))
+          absurd (stuck-end (c .stand) stuck (ap (λ (x : Stand S). x .decoder .closed) (sym same) ∙ e) (subst (λ (x : Stand S). x .decoder .setting .room ≤ length (x .buffer)) same l))
 
 pub open-refused-nothing : (S : Type 0) → OpenRefusedNothing S
 open-refused-nothing S t s unread moves e l = none-refused t moves s unread e l

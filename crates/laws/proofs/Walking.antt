@@ -18,14 +18,14 @@ use Rattle.laws.specs.Walk.{Fed, Stand, Teller, answered, before, call, 
 
 -- a decoder uses bytes, or none
 pub data Uses {S : Type 0} (s : Stand S) : Type 0 where
-  ready : s .decoder .closed ≡ 0 → s .decoder .room ≤ length (s .buffer) → Uses s
+  ready : s .decoder .closed ≡ 0 → s .decoder .setting .room ≤ length (s .buffer) → Uses s
   closed : s .decoder .closed ≢ 0 → Uses s
-  short : s .decoder .closed ≡ 0 → length (s .buffer) < s .decoder .room → Uses s
+  short : s .decoder .closed ≡ 0 → length (s .buffer) < s .decoder .setting .room → Uses s
 
 pub uses : {S : Type 0} (s : Stand S) → Uses s
-uses s = by-tests (eqb (s .decoder .closed) 0) (ltb (length (s .buffer)) (s .decoder .room)) refl refl
+uses s = by-tests (eqb (s .decoder .closed) 0) (ltb (length (s .buffer)) (s .decoder .setting .room)) refl refl
   where
-    by-tests : (t u : Bool) → eqb (s .decoder .closed) 0 ≡ t → ltb (length (s .buffer)) (s .decoder .room) ≡ u → Uses s
+    by-tests : (t u : Bool) → eqb (s .decoder .closed) 0 ≡ t → ltb (length (s .buffer)) (s .decoder .setting .room) ≡ u → Uses s
     by-tests true true e f = short (eqb-true _ _ e) (ltb-true _ _ f)
     by-tests true false e f = ready (eqb-true _ _ e) (ltb-false _ _ f)
     by-tests false u e f = closed (eqb-false _ _ e)
@@ -40,7 +40,7 @@ module _ {S : Type 0} (t : Teller S) where
   pub call-closed : (piece : List ℕ) (s : Stand S) → s .decoder .closed ≢ 0 → call t piece s ≡ fed [] s piece
   call-closed piece s n = call-is piece s _ (next-closed (s .decoder) piece (s .buffer) n)
 
-  pub call-short : (piece : List ℕ) (s : Stand S) → length (s .buffer) < s .decoder .room → call t piece s ≡ fed [] s piece
+  pub call-short : (piece : List ℕ) (s : Stand S) → length (s .buffer) < s .decoder .setting .room → call t piece s ≡ fed [] s piece
   call-short piece s l = by-use (uses s)
     where
       by-use : Uses s → call t piece s ≡ fed [] s piece
@@ -83,7 +83,7 @@ module _ {S : Type 0} (t : Teller S) where
       by-answer (refused number n) e = rw (e, past-one b bytes n)
 
   -- a ready decoder uses the byte that it is offered
-  uses-one : (b : ℕ) (s : Stand S) → s .decoder .closed ≡ 0 → s .decoder .room ≤ length (s .buffer) → used (next (s .decoder) (b ∷ []) (s .buffer) .answer) ≡ 1
+  uses-one : (b : ℕ) (s : Stand S) → s .decoder .closed ≡ 0 → s .decoder .setting .room ≤ length (s .buffer) → used (next (s .decoder) (b ∷ []) (s .buffer) .answer) ≡ 1
   uses-one b s e l =
       let low = uses-a-byte (s .decoder) b [] (s .buffer) e l in
       let u : used (next (s .decoder) (b ∷ []) (s .buffer) .answer) ≤ 0 + length (b ∷ []) =
@@ -91,12 +91,12 @@ module _ {S : Type 0} (t : Teller S) where
       in
       omega (arith, low, u)
 
-  byte-used : (b : ℕ) (s : Stand S) → s .decoder .closed ≡ 0 → s .decoder .room ≤ length (s .buffer) → call t (b ∷ []) s .unread ≡ []
+  byte-used : (b : ℕ) (s : Stand S) → s .decoder .closed ≡ 0 → s .decoder .setting .room ≤ length (s .buffer) → call t (b ∷ []) s .unread ≡ []
   unfolding call
   byte-used b s e l = ap (λ (n : ℕ). drop n (b ∷ [])) (uses-one b s e l)
 
   -- a call over more than a byte answers at its first byte, or goes on
-  module _ (b : ℕ) (bytes : List ℕ) (s : Stand S) (open-still : s .decoder .closed ≡ 0) (long : s .decoder .room ≤ length (s .buffer)) where
+  module _ (b : ℕ) (bytes : List ℕ) (s : Stand S) (open-still : s .decoder .closed ≡ 0) (long : s .decoder .setting .room ≤ length (s .buffer)) where
     abbrev o : Outcome
     o = next (s .decoder) (b ∷ []) (s .buffer)
 
@@ -131,7 +131,7 @@ module _ {S : Type 0} (t : Teller S) where
           → walk t (x ∷ (a ++ b)) s ≡ before (call t (x ∷ a) s .messages) (walk t (call t (x ∷ a) s .unread ++ b) (call t (x ∷ a) s .stand))
       from f e h = h ∙ ap (λ (f : Fed S). before (f .messages) (walk t (f .unread ++ b) (f .stand))) (sym e)
 
-      by-answer : s .decoder .closed ≡ 0 → s .decoder .room ≤ length (s .buffer)
+      by-answer : s .decoder .closed ≡ 0 → s .decoder .setting .room ≤ length (s .buffer)
           → ((s′ : Stand S) → walk t (a ++ b) s′ ≡ before (call t a s′ .messages) (walk t (call t a s′ .unread ++ b) (call t a s′ .stand)))
           → (l : Listed) → next (s .decoder) (x ∷ []) (s .buffer) .answer ≡ l
           → walk t (x ∷ (a ++ b)) s ≡ before (call t (x ∷ a) s .messages) (walk t (call t (x ∷ a) s .unread ++ b) (call t (x ∷ a) s .stand))
@@ -185,13 +185,13 @@ module _ {S : Type 0} (t : Teller S) where
   walk-closed [] s n = refl
   walk-closed (x ∷ bytes) s n = walk-stuck x bytes s (call-closed (x ∷ []) s n)
 
-  pub walk-short : (bytes : List ℕ) (s : Stand S) → length (s .buffer) < s .decoder .room → walk t bytes s ≡ fed [] s bytes
+  pub walk-short : (bytes : List ℕ) (s : Stand S) → length (s .buffer) < s .decoder .setting .room → walk t bytes s ≡ fed [] s bytes
   unfolding walk
   walk-short [] s l = refl
   walk-short (x ∷ bytes) s l = walk-stuck x bytes s (call-short (x ∷ []) s l)
 
   -- a call of a ready decoder uses a byte at least
-  pub call-uses : (x : ℕ) (piece : List ℕ) (s : Stand S) → s .decoder .closed ≡ 0 → s .decoder .room ≤ length (s .buffer) → length (call t (x ∷ piece) s .unread) ≤ length piece
+  pub call-uses : (x : ℕ) (piece : List ℕ) (s : Stand S) → s .decoder .closed ≡ 0 → s .decoder .setting .room ≤ length (s .buffer) → length (call t (x ∷ piece) s .unread) ≤ length piece
   unfolding call
   call-uses x piece s e l =
       let u = uses-a-byte (s .decoder) x piece (s .buffer) e l in

@@ -46,7 +46,7 @@ refusals t (offer n ∷ moves) s unread =
 pub data Spent {S : Type 0} (f : Fed S) : Type 0 where
   nothing-unread : f .unread ≡ [] → Spent f
   closed : f .stand .decoder .closed ≢ 0 → Spent f
-  short : length (f .stand .buffer) < f .stand .decoder .room → Spent f
+  short : length (f .stand .buffer) < f .stand .decoder .setting .room → Spent f
 
 -- "ends in the same decoder and payload buffer, and hands out the same messages"; and the same bytes are unread, and the teller has heard the same
 pub record Same {S : Type 0} (f g : Fed S) : Type 0 where
@@ -82,7 +82,7 @@ module _ (S : Type 0) where
   OpenRefusedNothing =
       (t : Teller S) (s : Stand S) (unread : List ℕ) (moves : List Move)
       → feed t moves s unread .stand .decoder .closed ≡ 0
-      → feed t moves s unread .stand .decoder .room ≤ length (feed t moves s unread .stand .buffer)
+      → feed t moves s unread .stand .decoder .setting .room ≤ length (feed t moves s unread .stand .buffer)
       → refusals t moves s unread ≡ []
 
   -- what a reader may ask about one by one
@@ -97,8 +97,8 @@ module _ (S : Type 0) where
     pub empty-piece : (t : Teller S) (s : Stand S) → call t [] s ≡ fed [] s []
     -- a closed decoder leaves all unread, and so does one whose buffer is short
     pub closed-decoder : (t : Teller S) (s : Stand S) (moves : List Move) (unread : List ℕ) → s .decoder .closed ≢ 0 → feed t moves s unread ≡ fed [] s (unread ++ arrived moves)
-    pub short-buffer : (t : Teller S) (s : Stand S) (moves : List Move) (unread : List ℕ) → length (s .buffer) < s .decoder .room
+    pub short-buffer : (t : Teller S) (s : Stand S) (moves : List Move) (unread : List ℕ) → length (s .buffer) < s .decoder .setting .room
         → feed t moves s unread ≡ fed [] s (unread ++ arrived moves)
     -- a call in between that is lent another buffer, which is short, uses nothing and changes nothing
-    pub short-in-between : (d : Decoder) (piece other : List ℕ) → length other < d .room
+    pub short-in-between : (d : Decoder) (piece other : List ℕ) → length other < d .setting .room
         → (used (next d piece other .answer) ≡ 0) × (next d piece other .deserializer ≡ d) × (next d piece other .payload ≡ other)

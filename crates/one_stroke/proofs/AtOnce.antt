@@ -19,6 +19,7 @@ use Rattle.chunk_meaning.specs.Meaning.{basicRefusal, firstRefusal, firstTime}
 use Rattle.byte_machine.specs.Reader.{Reader, Csid, MessagePayload, Stepped, current, ended, go, reader, unfinished}
 use Rattle.byte_machine.specs.Header.{opens}
 use Rattle.byte_machine.specs.Payload.{landed, paid}
+use Rattle.byte_machine.specs.Setting.{setting}
 use Rattle.byte_machine.specs.Rows.{putAt, rowAt, rowOrEmpty}
 use Rattle.byte_machine.proofs.RowLaws.{in-table}
 use Rattle.decoding.specs.Call.{after, next, outcome, read, run}
@@ -108,8 +109,7 @@ module _ (held rows input payload : List ℕ) (bytes : Bytes input) (b : Between
   -- the decoder after it
   abbrev pub finished : Decoder
   finished = record {
-    room = getD held 0 0;
-    «max_chunk_size» = getD held 1 0;
+    setting = setting (getD held 0 0) (getD held 1 0);
     closed = getD held 2 0;
     reader = reader Csid (current f (placeAt rows input) (rowOn rows input) (timedAt rows input) 0) (unfinished 0 0);
     rows = putAt rows (placeAt rows input) (timedAt rows input);

@@ -10,7 +10,7 @@ use Rattle.decoding.specs.Call.{Outcome, next, outcome}
 use Rattle.decoding.specs.Within.{Lies, nearer}
 use Rattle.decoding.specs.Decoder.{Decoder}
 use Rattle.decoding.proofs.PieceWithin.{next-within}
-use Rattle.held.specs.Numbers.{decode, encode, heldIn, heldOf, numbersOf, readerFrom}
+use Rattle.held.specs.Numbers.{decode, encode, heldIn, heldOf, numbersOf, readerFrom, settingIn}
 use Rattle.held.proofs.Again.{decode-encode, third, from-small}
 use Rattle.one_stroke.specs.Lent.{Lent}
 
@@ -28,7 +28,7 @@ stroke o answer d held rows payload e k t small = record {
 
 -- a piece within a payload
 pub piece-taken : (held rows input payload held′ payload′ : List ℕ) → Lies (decode held rows) (length input) (length payload)
-    → (let h = heldIn held in held′ ≡ numbersOf (heldOf (h .room) (h .size) (h .closed) (paid (readerFrom h) (h .got + length input) (h .left - length input))))
+    → (let h = heldIn held in held′ ≡ numbersOf (heldOf (settingIn h) (h .closed) (paid (readerFrom h) (h .got + length input) (h .left - length input))))
     → payload′ ≡ stored payload (heldIn held .got) input
     → Lent (more (length input)) held′ rows payload′ (next (decode held rows) input payload)
 piece-taken held rows input payload held′ payload′ w k b =

@@ -3,7 +3,7 @@ ghost use mathlib.Core.Path.{_≡_};
 ghost use Prim.Native.Nat.{_+_, _-_, _≤_};
 ghost use Rattle.fields.specs.Output.{stored};
 ghost use Rattle.byte_machine.specs.Payload.{paid};
-ghost use Rattle.held.specs.Numbers.{heldOf, readerFrom};
+ghost use Rattle.held.specs.Numbers.{heldOf, readerFrom, settingIn};
 ghost use Rattle.one_stroke.specs.Quick.{Outside, Piece};
 use fields::put_bytes;
 use held::Held;
@@ -41,7 +41,7 @@ fn lies_outside(held: &[u32; 24], length: usize, lent: usize) -> bool
 // After n bytes of payload that do not end their chunk.
 fn nearer(h: Held, n: u32) -> Held
     requires { ⌜ (h .format ≤ 3) × ((8 ≤ h .stage) × ((n ≤ h .left) × (h .got + h .left ≤ 0xffff_ffff))) ⌝ }
-    ensures { λ r. ⌜ r ≡ heldOf (h .room) (h .size) (h .closed) (paid (readerFrom h) (h .got + n) (h .left - n)) ⌝ }
+    ensures { λ r. ⌜ r ≡ heldOf (settingIn h) (h .closed) (paid (readerFrom h) (h .got + n) (h .left - n)) ⌝ }
 {
     let got = h.got + n;
     let left = h.left - n;

@@ -55,12 +55,12 @@ module _ {came : List Sign} {d : Decoder} (o : Open came d) (input payload : Lis
     abbrev s₁ : Stands (came ++ signs (take m input)) d₁
     s₁ = stands-of o₁
 
-    kept : (d₁ .closed ≡ 0) × ((d₁ .room ≡ d .room) × (length payload₁ ≡ length payload))
+    kept : (d₁ .closed ≡ 0) × ((d₁ .setting .room ≡ d .setting .room) × (length payload₁ ≡ length payload))
     kept =
         let h = has-run d (take m input) payload m before in
         let e = next-runs d (take m input) payload (h .1) (h .0) in
         let k = run-kept (take m input) d payload 0 in
-        (open-amid (amid-of s₁) .0, (ap (λ (o : Outcome). o .deserializer .room) e ∙ k .room, ap (λ (o : Outcome). length (o .payload)) e ∙ k .long))
+        (open-amid (amid-of s₁) .0, (ap (λ (o : Outcome). o .deserializer .setting .room) e ∙ k .room, ap (λ (o : Outcome). length (o .payload)) e ∙ k .long))
 
     -- the rest of the input is a call after them
     rest-of : next d input payload ≡ shift m (next d₁ (x ∷ drop (suc m) input) payload₁)
@@ -70,12 +70,12 @@ module _ {came : List Sign} {d : Decoder} (o : Open came d) (input payload : Lis
         ∙ ap (λ (l : List ℕ). shift m (next d₁ l payload₁)) (drop-cons input m 0 inside)
 
     -- with any long enough buffer, and whatever follows the byte
-    same-answer : (b : List ℕ) → d₁ .room ≤ length b → (k : ℕ) → next d₁ (x ∷ []) b .answer ≡ refused k 1 → next d₁ (x ∷ drop (suc m) input) payload₁ .answer ≡ refused k 1
+    same-answer : (b : List ℕ) → d₁ .setting .room ≤ length b → (k : ℕ) → next d₁ (x ∷ []) b .answer ≡ refused k 1 → next d₁ (x ∷ drop (suc m) input) payload₁ .answer ≡ refused k 1
     same-answer b long k h =
         let p = has-run d (take m input) payload m before in
         let other : (j : ℕ) → next d₁ (x ∷ []) b .answer ≢ more j = λ j e. refused-not-more (sym h ∙ e) in
         let both = feed-answered d₁ (x ∷ []) (drop (suc m) input) b other in
-        let l : d₁ .room ≤ length payload₁ = omega (arith, kept .1 .0, kept .1 .1, p .0) in
+        let l : d₁ .setting .room ≤ length payload₁ = omega (arith, kept .1 .0, kept .1 .1, p .0) in
         calls-same d₁ (x ∷ drop (suc m) input) payload₁ b (kept .0) l long .answer ∙ ap (λ (r : Outcome). r .answer) both ∙ h
 
     -- given, where a chunk is settled by the byte
@@ -84,7 +84,7 @@ module _ {came : List Sign} {d : Decoder} (o : Open came d) (input payload : Lis
         → came ++ signs (take (suc m) input) ≡ signsOf items ++ signs (part c)
         → AllFit items
         → HeadFits (streams items (c .id)) c
-        → Holds (d .room) items c
+        → Holds (d .setting .room) items c
         → next d input payload .answer ≡ refused k (m + 1)
     gives-at part k Holds nz s items c come fits can holds =
         let q = some-last (part c) (part-some (part c) c (s .part-is c)) in
@@ -104,15 +104,15 @@ module _ {came : List Sign} {d : Decoder} (o : Open came d) (input payload : Lis
         let only = only-reading s₁ (record { items = items; part = q .0; is = last .0; fits = fits; begun = begun }) in
         let a = amid-of s₁ in
         let same : part c ≡ full a x = q .1 .1 ∙ (rw (sym (only .1), sym xy)) in
-        let room : d .room ≡ a .decoder .room = sym (kept .1 .0) ∙ open-amid a .1 .1 in
+        let room : d .setting .room ≡ a .decoder .setting .room = sym (kept .1 .0) ∙ open-amid a .1 .1 in
         let can′ = subst (λ (l : List Item). HeadFits (streams l (c .id)) c) (sym (only .0)) can in
-        let holds′ = subst (λ (l : List Item). Holds (a .decoder .room) l c) (sym (only .0)) (subst (λ (r : ℕ). Holds r items c) room holds) in
+        let holds′ = subst (λ (l : List Item). Holds (a .decoder .setting .room) l c) (sym (only .0)) (subst (λ (r : ℕ). Holds r items c) room holds) in
         let at = subst (λ (l : List ℕ). At (a .decoder) c k l) same (s .settles (between a x) c can′ holds′) in
         let here = gives-here a x k c nz can′ at in
         ap (λ (o : Outcome). o .answer) rest-of ∙ (rw (same-answer (s₁ .buffer) (open-amid a .1 .0) k here))
 
   -- a call that is refused by bytes
-  module _ (long : d .room ≤ length payload) (k n : ℕ) (h : next d input payload .answer ≡ refused k n) where
+  module _ (long : d .setting .room ≤ length payload) (k n : ℕ) (h : next d input payload .answer ≡ refused k n) where
     runs : next d input payload ≡ run input d payload 0
     runs = next-runs d input payload is-open long
 
@@ -155,19 +155,19 @@ module _ {came : List Sign} {d : Decoder} (o : Open came d) (input payload : Lis
         let n-is : n ≡ m + 1 = omega (arith, cut .used) in
         let g = counted (next (d₁ m inside wants) (x m inside wants ∷ []) (payload₁ m inside wants)) m k 1 (ap (λ (o : Outcome). o .answer) (sym f) ∙ e ∙ ap (refused k) n-is) in
         let k₁ = kept m inside wants in
-        let l : d₁ m inside wants .room ≤ length (payload₁ m inside wants) = omega (arith, k₁ .1 .0, k₁ .1 .1, long) in
+        let l : d₁ m inside wants .setting .room ≤ length (payload₁ m inside wants) = omega (arith, k₁ .1 .0, k₁ .1 .1, long) in
         calls-same (d₁ m inside wants) (x m inside wants ∷ []) (s₁ m inside wants .buffer) (payload₁ m inside wants) (k₁ .0) (open-amid a .1 .0) l .answer ∙ g
 
     its-refusal : Refusal (amid-of (s₁ m inside wants)) (x m inside wants) k byte-refused
         (bytes-append (amid-of (s₁ m inside wants) .part-of) (x m inside wants ∷ []) (amid-of (s₁ m inside wants) .bytes) (one-byte input m are-bytes))
     its-refusal = refusal (amid-of (s₁ m inside wants)) (x m inside wants) k byte-refused _
 
-    settled : (part : Chunk → List ℕ) (Holds : ℕ → List Item → Chunk → Type 0) → Settles part k Holds → Settled part (Holds (d .room)) came d input payload n
+    settled : (part : Chunk → List ℕ) (Holds : ℕ → List Item → Chunk → Type 0) → Settles part k Holds → Settled part (Holds (d .setting .room)) came d input payload n
     settled part Holds s =
         let a = amid-of (s₁ m inside wants) in
         let r = its-refusal in
         let t = s .tells (between a (x m inside wants)) (r .chunk) (r .fits) (full a (x m inside wants)) (r .at) in
-        let room : a .decoder .room ≡ d .room = sym (open-amid a .1 .1) ∙ kept m inside wants .1 .0 in
+        let room : a .decoder .setting .room ≡ d .setting .room = sym (open-amid a .1 .1) ∙ kept m inside wants .1 .0 in
         let n-is : n ≡ suc m = omega (arith, cut .used) in
         let come : came ++ signs (take (suc m) input) ≡ signsOf (a .at-start .items) ++ signs (part (r .chunk)) =
         ap (λ (l : List ℕ). came ++ signs l) (take-suc input m 0 inside)
@@ -195,7 +195,7 @@ module _ {came : List Sign} {d : Decoder} (o : Open came d) (input payload : Lis
 
   -- given, where the chunk is there
   gives : (part : Chunk → List ℕ) (k : ℕ) (Holds : ℕ → List Item → Chunk → Type 0) (n : ℕ) → k ≢ 0 → Settles part k Holds
-      → Settled part (Holds (d .room)) came d input payload n
+      → Settled part (Holds (d .setting .room)) came d input payload n
       → next d input payload .answer ≡ refused k n
   gives part k Holds n nz s t =
       let e : n ≡ n - 1 + 1 = omega (arith, t .nth .0) in
@@ -205,22 +205,22 @@ module _ {came : List Sign} {d : Decoder} (o : Open came d) (input payload : Lis
       ∙ ap (refused k) (sym e)
 
   -- what is refused is 7, or the buffer is long enough
-  is-seven : length payload < d .room → next d input payload .answer ≡ refused 7 0
+  is-seven : length payload < d .setting .room → next d input payload .answer ≡ refused 7 0
   is-seven s = ap (λ (o : Outcome). o .answer) (next-short d input payload is-open s)
 
-  seven-or-long : (k n : ℕ) → next d input payload .answer ≡ refused k n → ((k ≡ 7) × (n ≡ 0) × (length payload < d .room)) ⊎ (d .room ≤ length payload)
-  seven-or-long k n h = by-length (ltb (length payload) (d .room)) refl
+  seven-or-long : (k n : ℕ) → next d input payload .answer ≡ refused k n → ((k ≡ 7) × (n ≡ 0) × (length payload < d .setting .room)) ⊎ (d .setting .room ≤ length payload)
+  seven-or-long k n h = by-length (ltb (length payload) (d .setting .room)) refl
     where
-      by-length : (t : Bool) → ltb (length payload) (d .room) ≡ t → ((k ≡ 7) × (n ≡ 0) × (length payload < d .room)) ⊎ (d .room ≤ length payload)
+      by-length : (t : Bool) → ltb (length payload) (d .setting .room) ≡ t → ((k ≡ 7) × (n ≡ 0) × (length payload < d .setting .room)) ⊎ (d .setting .room ≤ length payload)
       by-length true e =
-          let s = ltb-true (length payload) (d .room) e in
+          let s = ltb-true (length payload) (d .setting .room) e in
           let q : refused 7 0 ≡ refused k n = sym (is-seven s) ∙ h in
           inl (cc, cc, s)
-      by-length false e = inr (ltb-false (length payload) (d .room) e)
+      by-length false e = inr (ltb-false (length payload) (d .setting .room) e)
 
-pub call-7 : Call 7 (λ d payload. length payload < d .room)
+pub call-7 : Call 7 (λ d payload. length payload < d .setting .room)
 call-7 came d o input payload b n =
-    let tells : next d input payload .answer ≡ refused 7 n → (length payload < d .room) × (n ≡ 0) = λ h.
+    let tells : next d input payload .answer ≡ refused 7 n → (length payload < d .setting .room) × (n ≡ 0) = λ h.
     ⊎-elim (λ s. (s .2, s .1)) (λ l. absurd (listed 7 (9 ∷ 10 ∷ 11 ∷ 12 ∷ 13 ∷ 14 ∷ []) .no refl (one-of-them o input payload b l 7 n h)))
     (seven-or-long o input payload b 7 n h)
     in
@@ -232,7 +232,7 @@ call-7 came d o input payload b n =
 -- a number that bytes settle
 pub call-at : (part : Chunk → List ℕ) (k : ℕ) (Holds : ℕ → List Item → Chunk → Type 0) → k ≢ 0 → k ≢ 7 → Settles part k Holds → CallAt part k Holds
 call-at part k Holds nz n7 s came d o input payload b n =
-    let long : next d input payload .answer ≡ refused k n → d .room ≤ length payload = λ h. ⊎-elim (λ s. absurd (n7 (s .0))) (λ l. l) (seven-or-long o input payload b k n h) in
+    let long : next d input payload .answer ≡ refused k n → d .setting .room ≤ length payload = λ h. ⊎-elim (λ s. absurd (n7 (s .0))) (λ l. l) (seven-or-long o input payload b k n h) in
     record {
       given = (λ h. settled o input payload b (long h) k n h part Holds s, λ t. gives o input payload b part k Holds n nz s t);
       leaves = λ h. closed o input payload b (long h) k n h;

@@ -189,7 +189,7 @@ module _ {came : List Sign} {messages : List Message} {d : Decoder} {buffer : Li
   test-13 = not (isFull (formatFor (c .header))) && (eqb (header d c .«timestamp_field») maxField && ltb (says (c .extended) (header d c)) maxField)
 
   abbrev test-14 : Bool
-  test-14 = ltb (d .room) (header d c .«message_length»)
+  test-14 = ltb (d .setting .room) (header d c .«message_length»)
 
   said-before : saidOn (streams (w .items) (c .id)) ≡ saidIn (row d c)
   said-before = ap saidOn (sym sees) ∙ before-is d buffer c
@@ -206,12 +206,12 @@ module _ {came : List Sign} {messages : List Message} {d : Decoder} {buffer : Li
   decides-13 =
       both (type-1-2-3 (c .header)) (below (c .extended) (header d c) (head-fits d buffer c (subst (λ (s : Stream). HeadFits s c) (sym sees) fits) .extended))
 
-  decides-14 : Decides test-14 (d .room < saying (streams (w .items) (c .id)) c .length)
+  decides-14 : Decides test-14 (d .setting .room < saying (streams (w .items) (c .id)) c .length)
   decides-14 =
       let e : header d c .«message_length» ≡ saying (streams (w .items) (c .id)) c .length =
       ap (λ (x : Said). x .length) (sym (saying-is d buffer c)) ∙ ap (λ (s : Stream). saying s c .length) sees
       in
-      subst (λ (l : ℕ). Decides test-14 (d .room < l)) e (less (d .room) (header d c .«message_length»))
+      subst (λ (l : ℕ). Decides test-14 (d .setting .room < l)) e (less (d .setting .room) (header d c .«message_length»))
 
   inside-only : Among Is (λ a. Unit {0}) (12 ∷ 0 ∷ []) (cond test-late 12 0)
   inside-only = then-one test-late (gives 12) (passed 0)
@@ -236,10 +236,10 @@ module _ {came : List Sign} {messages : List Message} {d : Decoder} {buffer : Li
       tested (λ (n : ℕ). n ≡ 13 ↔ thirteen (w .items) c) (within w c fits) (λ i. (λ e. absurd (not-given refl inside-only e), λ h. absurd (h .0 i)))
       (λ o. let x = here (gives 13) decides-13 from-14 refl in (λ e. let y = x .0 e in (o, y .0, y .1), λ h. x .1 (h .1, h .2)))
 
-  pub header-14 : headerRefused d c ≡ 14 ↔ (fourteen (w .items) c (d .room) unless thirteen (w .items) c)
+  pub header-14 : headerRefused d c ≡ 14 ↔ (fourteen (w .items) c (d .setting .room) unless thirteen (w .items) c)
   unfolding laterRefusal firstRefusal
   header-14 =
-      tested (λ (n : ℕ). n ≡ 14 ↔ (fourteen (w .items) c (d .room) unless thirteen (w .items) c)) (within w c fits) (λ i. (λ e. absurd (not-given refl inside-only e), λ h. absurd (h .0 .0 i)))
+      tested (λ (n : ℕ). n ≡ 14 ↔ (fourteen (w .items) c (d .setting .room) unless thirteen (w .items) c)) (within w c fits) (λ i. (λ e. absurd (not-given refl inside-only e), λ h. absurd (h .0 .0 i)))
       (λ o.
       let x = later (gives 13) decides-13 refl (here (gives 14) decides-14 (passed 0) refl) in
       (λ e. let y = x .0 e in ((o, y .0), λ t. y .1 (t .1, t .2)), λ h. x .1 (h .0 .1, λ t. h .1 (o, t .0, t .1))))

@@ -18,12 +18,13 @@ use Rattle.decoding.proofs.Runs.{landed-not-refused}
 use Rattle.fields.proofs.Tests.{clash}
 use Rattle.refusal_table.specs.History.{closedWith}
 use Rattle.decoding.proofs.Standing.{refused-not-message}
+use Rattle.byte_machine.specs.Look.{look}
 
 -- payload is not refused, and no other byte is stored
 refused-stores-nothing : (d : Decoder) (payload : List ℕ) (x k : ℕ) → stepOf d x .event ≡ Refuse k → writes d payload x ≡ payload
 unfolding stepOf writes
 refused-stores-nothing d payload x k =
-    by-cases (inPayload (d .reader .stage)) (pays (d .room) (d .reader)) (stepped (d .reader .stage) (d .room) (d .«max_chunk_size») (d .rows) (d .reader) x)
+    by-cases (inPayload (d .reader .stage)) (pays (d .setting .room) (d .reader)) (stepped (d .reader .stage) (d .setting) (look (d .rows)) (d .reader) x)
   where
     by-cases : (t u : Bool) (s : Stepped) → cond t (cond u (landed (d .reader) 1) (refuse (d .reader) 255)) s .event ≡ Refuse k
         → cond t (cond u (set payload (d .reader .message .got) x) payload) payload ≡ payload

@@ -70,11 +70,11 @@ open-or-closed d (sized {d = d₀} m size) = by-cases (open-or-closed d₀ m)
     by-cases (inr c) = inr (rw (told-closed d₀ (not-0 (d₀ .closed) c) size) c)
 
 -- the lengths that were said
-lengths : (came : List Sign) (d : Decoder) → Open came d → (r : Read came) → (id : ℕ) → saidOn (streams (r .items) id) .length ≤ d .room
+lengths : (came : List Sign) (d : Decoder) → Open came d → (r : Read came) → (id : ℕ) → saidOn (streams (r .items) id) .length ≤ d .setting .room
 lengths came d o r id =
     let s = stands-of o in
     let a = amid-of s in
-    let same = subst (λ (l : List Item). saidOn (streams l id) .length ≤ a .decoder .room) (only-reading s r .0) (a .at-start .fit-room id) in
+    let same = subst (λ (l : List Item). saidOn (streams l id) .length ≤ a .decoder .setting .room) (only-reading s r .0) (a .at-start .fit-room id) in
     omega (arith, same, open-amid a .1 .1)
 
 -- a length that is over the room is the header's
@@ -85,4 +85,4 @@ by-header room (type2 delta) before f o = absurd (omega arith)
 by-header room type3 before f o = absurd (omega arith)
 
 pub lengths-fit : LengthsFit
-lengths-fit = record { said = lengths; types = λ came d o r c h. by-header (d .room) (c .header) _ (lengths came d o r (c .id)) (h .1) }
+lengths-fit = record { said = lengths; types = λ came d o r c h. by-header (d .setting .room) (c .header) _ (lengths came d o r (c .id)) (h .1) }

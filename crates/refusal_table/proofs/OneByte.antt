@@ -84,7 +84,7 @@ module _ {came : List Sign} {messages : List Message} {d : Decoder} {buffer : Li
   not-whole c t taken is =
       let b = a .begun in
       let form = taken .fits .head .form in
-      let seen : Fits (a .decoder .«max_chunk_size») (viewed (a .decoder) (a .held) (c .id)) c = stream-fits (record { reached = taken .reached; long = w .ready .long; form = form; passes = taken .basic }) (taken .fits) in
+      let seen : Fits (a .decoder .setting .size) (viewed (a .decoder) (a .held) (c .id)) c = stream-fits (record { reached = taken .reached; long = w .ready .long; form = form; passes = taken .basic }) (taken .fits) in
       let fits : Fits (sizeFrom initialSize (w .items)) (streams (w .items) (c .id)) c = rw (w .in-force, w .sees (c .id) (id-some (c .form) (c .id) form)) at seen in
       let both : chunkBytes c ++ (t ++ (b .missing ∷ b .missing-too)) ≡ chunkBytes (b .next-chunk) ++ [] =
       sym (append-assoc (chunkBytes c) t (b .missing ∷ b .missing-too)) ∙ ap (λ (l : List ℕ). l ++ (b .missing ∷ b .missing-too)) (sym is) ∙ sym (b .is)

@@ -40,7 +40,7 @@ lent (x ∷ a) d p q n =
     let d′ = after d (stepOf d x) in
     end-lent (stepOf d x .event) d′ (writes d p x) (writes d q x) (n + 1) _ _ (lent a d′ (writes d p x) (writes d q x) (n + 1))
 
-pub calls-same : (d : Decoder) (input p q : List ℕ) → d .closed ≡ 0 → d .room ≤ length p → d .room ≤ length q → Same (next d input p) (next d input q)
+pub calls-same : (d : Decoder) (input p q : List ℕ) → d .closed ≡ 0 → d .setting .room ≤ length p → d .setting .room ≤ length q → Same (next d input p) (next d input q)
 calls-same d input p q o l k =
     let a = next-runs d input p o l in
     let b = next-runs d input q o k in
@@ -51,9 +51,9 @@ calls-same d input p q o l k =
     }
 
 -- a call that refuses nothing had an open decoder and a buffer that is long enough
-pub not-refused-long : (d : Decoder) (input payload : List ℕ) → NotRefused (next d input payload .answer) → (d .closed ≡ 0) × (d .room ≤ length payload)
+pub not-refused-long : (d : Decoder) (input payload : List ℕ) → NotRefused (next d input payload .answer) → (d .closed ≡ 0) × (d .setting .room ≤ length payload)
 not-refused-long d input payload =
-    next-by d input payload (λ (o : Outcome). NotRefused (o .answer) → (d .closed ≡ 0) × (d .room ≤ length payload))
+    next-by d input payload (λ (o : Outcome). NotRefused (o .answer) → (d .closed ≡ 0) × (d .setting .room ≤ length payload))
     (λ closed h. absurd (h _ _ refl)) (λ short h. absurd (h _ _ refl)) (λ o l h. (o, l))
 
 -- a decoder to which so much came, with one buffer
@@ -68,14 +68,14 @@ amid-of s = feeding-amid (s .fed)
 
 -- it is open, and its buffer is long enough
 pub open-amid : {came : List Sign} {messages : List Meant} {d : Decoder} {buffer : List ℕ} (a : Amid came messages d buffer)
-    → (d .closed ≡ 0) × ((d .room ≤ length buffer) × (d .room ≡ a .decoder .room))
+    → (d .closed ≡ 0) × ((d .setting .room ≤ length buffer) × (d .setting .room ≡ a .decoder .setting .room))
 open-amid {d = d} {buffer = buffer} a =
     let r = a .at-start .ready in
     let e = sym (next-runs (a .decoder) (a .part-of) (a .held) (r .open-still) (r .long)) ∙ a .reads in
     let k = run-kept (a .part-of) (a .decoder) (a .held) 0 in
     let c = k .closed (length (a .part-of)) (ap (λ (o : Outcome). o .answer) e) in
     let closed : d .closed ≡ a .decoder .closed = ap (λ (o : Outcome). o .deserializer .closed) (sym e) ∙ c in
-    let room : d .room ≡ a .decoder .room = ap (λ (o : Outcome). o .deserializer .room) (sym e) ∙ k .room in
+    let room : d .setting .room ≡ a .decoder .setting .room = ap (λ (o : Outcome). o .deserializer .setting .room) (sym e) ∙ k .room in
     let long : length buffer ≡ length (a .held) = ap (λ (o : Outcome). length (o .payload)) (sym e) ∙ k .long in
     (closed ∙ r .open-still, (omega (arith, room, long, r .long), room))
 

@@ -37,8 +37,8 @@ Ever P = (w : Between) (c : Chunk) → HeadFits (streams (w .whole .items) (c .i
 -- it is refused exactly where something holds, and at the end of that part
 pub record Settles (part : Chunk → List ℕ) (k : ℕ) (Holds : (room : ℕ) → List Item → Chunk → Type 0) : Type 0 where
   pub part-is : (c : Chunk) → (part c ≡ basic c) ⊎ (part c ≡ head c)
-  pub tells : Ever (λ d items c. (p : List ℕ) → At d c k p → Holds (d .room) items c × (p ≡ part c))
-  pub settles : Ever (λ d items c. Holds (d .room) items c → At d c k (part c))
+  pub tells : Ever (λ d items c. (p : List ℕ) → At d c k p → Holds (d .setting .room) items c × (p ≡ part c))
+  pub settles : Ever (λ d items c. Holds (d .setting .room) items c → At d c k (part c))
 
 -- a number that only a basic header gives
 module _ (k : ℕ) (not-later : ¬ OneOf k (12 ∷ 13 ∷ 14 ∷ 0 ∷ [])) (Holds : List Item → Chunk → Type 0)
@@ -115,9 +115,9 @@ none-of-four w c fits outside z =
 
 -- a number that only a header gives
 module _ (k : ℕ) (not-at-once : ¬ OneOf k (9 ∷ 10 ∷ 11 ∷ 12 ∷ 0 ∷ [])) (Holds : (room : ℕ) → List Item → Chunk → Type 0)
-    (passed : Ever (λ d items c. Holds (d .room) items c → basicRefused d c ≡ 0))
-    (is : Ever (λ d items c. basicRefused d c ≡ 0 → headerRefused d c ≡ k ↔ Holds (d .room) items c)) where
-  tells-head : Ever (λ d items c. (p : List ℕ) → At d c k p → Holds (d .room) items c × (p ≡ head c))
+    (passed : Ever (λ d items c. Holds (d .setting .room) items c → basicRefused d c ≡ 0))
+    (is : Ever (λ d items c. basicRefused d c ≡ 0 → headerRefused d c ≡ k ↔ Holds (d .setting .room) items c)) where
+  tells-head : Ever (λ d items c. (p : List ℕ) → At d c k p → Holds (d .setting .room) items c × (p ≡ head c))
   tells-head w c fits p (by-basic e) = absurd (not-at-once (basic-others (w .whole) c fits k e))
   tells-head w c fits p (by-head z e) = (is w c fits z .0 e, refl)
 

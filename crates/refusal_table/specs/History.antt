@@ -49,7 +49,7 @@ pub record Settled (part : Chunk → List ℕ) (Holds : List Item → Chunk → 
 
 -- a decoder that is closed with a number, and otherwise the same
 abbrev pub closedWith : ℕ → Decoder → Decoder
-closedWith k d = record { room = d .room; «max_chunk_size» = d .«max_chunk_size»; closed = k; reader = d .reader; rows = d .rows }
+closedWith k d = record { setting = d .setting; closed = k; reader = d .reader; rows = d .rows }
 
 -- "that byte counts as used; payload already written stays": the bytes before the n-th leave the decoder and the buffer, and the n-th only closes
 pub record Closed (k : ℕ) (d : Decoder) (input payload : List ℕ) (n : ℕ) : Type 0 where

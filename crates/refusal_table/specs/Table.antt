@@ -82,7 +82,7 @@ Call k Holds =
 abbrev pub CallAt : (Chunk → List ℕ) → ℕ → ((room : ℕ) → List Item → Chunk → Type 0) → Type 0
 CallAt part k Holds =
     (came : List Sign) (d : Decoder) → Open came d → (input payload : List ℕ) → Bytes input → (n : ℕ)
-    → Row (next d input payload .answer ≡ refused k n) (Settled part (Holds (d .room)) came d input payload n) (Closed k d input payload n)
+    → Row (next d input payload .answer ≡ refused k n) (Settled part (Holds (d .setting .room)) came d input payload n) (Closed k d input payload n)
 
 -- The table. Order, where several hold: `unless`; 1 and 2, or 3 and 4, never hold together
 pub record RefusalTable : Type 0 where
@@ -106,7 +106,7 @@ pub record RefusalTable : Type 0 where
   -- 6 | room is 0 or over 16777215 | a decoder closed with 6
   pub new-6 : New 6 (λ room. (room ≡ 0) ⊎ (16777215 < room))
   -- 7 | payload buffer shorter than the room | all as before, 0 used
-  pub call-7 : Call 7 (λ d payload. length payload < d .room)
+  pub call-7 : Call 7 (λ d payload. length payload < d .setting .room)
   -- 8 | decoder told a size after the first byte of a message and before its end | decoder as before
   pub tell-size-8 : TellSize 8 (λ came size. ((r : Read came) × eight (r .items) (r .part)) unless ((size ≡ 0) ⊎ (2147483647 < size)))
   -- 9 | type 1, 2 or 3 outside a message on a stream with no row | closed
@@ -138,8 +138,8 @@ pub record ClosedStays : Type 0 where
 
 -- 14 is of the length in a chunk's own header: no length over the room has been said on any stream, so a first chunk of type 2 or 3 is never 14
 pub record LengthsFit : Type 0 where
-  pub said : (came : List Sign) (d : Decoder) → Open came d → (r : Read came) → (id : ℕ) → saidOn (streams (r .items) id) .length ≤ d .room
-  pub types : (came : List Sign) (d : Decoder) → Open came d → (r : Read came) → (c : Chunk) → fourteen (r .items) c (d .room) → OneOf (type c) (0 ∷ 1 ∷ [])
+  pub said : (came : List Sign) (d : Decoder) → Open came d → (r : Read came) → (id : ℕ) → saidOn (streams (r .items) id) .length ≤ d .setting .room
+  pub types : (came : List Sign) (d : Decoder) → Open came d → (r : Read came) → (c : Chunk) → fourteen (r .items) c (d .setting .room) → OneOf (type c) (0 ∷ 1 ∷ [])
 
 -- and no entry point gives a number that the table does not name for it; a decoder that calls can make is open, or closed with one that closes
 pub record NoOther : Type 0 where

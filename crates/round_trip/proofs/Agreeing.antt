@@ -38,7 +38,7 @@ pub record Knows (h : ChunkHeader) (id : ℕ) (s : Stream) : Type 0 where
 pub record Agrees (s : ChunkSerializer) (d : Decoder) (buffer : List ℕ) : Type 0 where
   pub ready : Ready d buffer
   pub between-now : between (d .reader) ≡ true
-  pub size : d .«max_chunk_size» ≡ s .«max_chunk_size»
+  pub size : d .setting .size ≡ s .«max_chunk_size»
   pub some : 0 < s .«max_chunk_size»
   pub spare : Spare (d .rows)
   pub long : length (s .«previous_headers») ≡ 5
@@ -95,7 +95,7 @@ module _ (s : ChunkSerializer) (d : Decoder) (buffer : List ℕ) (a : Agrees s d
       → Ready d″ buffer′
       → d″ .reader ≡ d′ .reader
       → d″ .rows ≡ d′ .rows
-      → d″ .«max_chunk_size» ≡ size
+      → d″ .setting .size ≡ size
       → 0 < size
       → m .timestamp .value < 2 ^ 32
       → Agrees (remember s m size) d″ buffer′

@@ -136,8 +136,8 @@ module _ (m : Message) (previous : ChunkHeader) (piece : List ℕ) where
     basic-first TimeDeltaOnly (delta-only g a b) = rw (eq-eqb (d .reader .message .id) 0 between, seen-there (d .rows) _ (knows g))
     basic-first Empty (empty g a b c) = rw (eq-eqb (d .reader .message .id) 0 between, seen-there (d .rows) _ (knows g))
 
-    pub first-chunk : (f : ChunkHeaderFormat) → Chosen m previous f → Fits (headerBy f m previous) → previous .timestamp .value < 2 ^ 32 → m .length ≤ d .room
-        → length piece ≡ min (d .«max_chunk_size») (m .length)
+    pub first-chunk : (f : ChunkHeaderFormat) → Chosen m previous f → Fits (headerBy f m previous) → previous .timestamp .value < 2 ^ 32 → m .length ≤ d .setting .room
+        → length piece ≡ min (d .setting .size) (m .length)
         → Taken d buffer (first f) (headerBy f m previous)
     first-chunk f c k t h e =
         let says = says-first seen outside knows f c (k .time) t in
@@ -146,9 +146,9 @@ module _ (m : Message) (previous : ChunkHeader) (piece : List ℕ) where
         let long : header d (first f) .«message_length» ≡ m .length = ap (λ (x : Said). x .length) is ∙ ap (λ (x : Said). x .length) says in
         record {
           says = says;
-          fits = fits-first seen outside knows f (d .«max_chunk_size») c k t e;
+          fits = fits-first seen outside knows f (d .setting .size) c k t e;
           basic = basic-first f c;
           head =
               rw (eq-eqb (d .reader .message .id) 0 between, ← number-is (extended (headerBy f m previous .«timestamp_field»)) (header d (first f)), number-field (headerBy f m previous .«timestamp_field») _ field)
-              (first-taken _ (header d (first f)) (headerBy f m previous .«timestamp_field») (d .room) field (omega (arith, long, h)));
+              (first-taken _ (header d (first f)) (headerBy f m previous .«timestamp_field») (d .setting .room) field (omega (arith, long, h)));
         }

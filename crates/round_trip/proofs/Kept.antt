@@ -65,7 +65,7 @@ record Tells (s : ChunkSerializer) (c : Call) (d : Decoder) (buffer : List ℕ) 
   told-to : Decoder
   tells-it : (later : List Tell) → tellFirst (tellOf c ∷ later) d ≡ telling taken told-to
   agrees : Agrees (remember s (encoded c) (sizeAfter s c)) told-to buffer
-  room : told-to .room ≡ d .room
+  room : told-to .setting .room ≡ d .setting .room
 
 tells-on : (s : ChunkSerializer) (d : Decoder) (buffer : List ℕ) (c : Call) (d′ : Decoder) (buffer′ : List ℕ) → Agrees s d buffer → Taken c → Ranged c
     → At d buffer (header (encoded c) (previous s (encoded c))) none d′ buffer′
@@ -96,18 +96,18 @@ message-is (resize size time output) = refl
 
 -- a packet that is kept is to come, and then what is to come after it
 module _ (s : ChunkSerializer) (d : Decoder) (c : Call) (buffer : List ℕ) (ps : List Packet) (a : Agrees s d buffer) (r : Ranged c) (o : Accepted s c (encodes s c))
-    (fit : length (body c) ≤ d .room) where
+    (fit : length (body c) ≤ d .setting .room) where
   abbrev p : Packet
   p = packetFor s c
 
   reads : Reads d buffer (header (encoded c) (previous s (encoded c))) (body c) (p .bytes)
   reads =
-      let size : max 1 (s .«max_chunk_size») ≡ d .«max_chunk_size» = omega (arith, a .size, a .some) in
+      let size : max 1 (s .«max_chunk_size») ≡ d .setting .size = omega (arith, a .size, a .some) in
       rw size
       (packet-reads d buffer (encoded c) (previous s (encoded c)) (body c) (awake s d buffer a (encoded c)) (λ f. fits c (previous s (encoded c)) f r (o .most)) (omega (arith, a .size, a .some)) (long-as c) (o .some)
       (omega (arith, long-as c, fit)))
 
-  pub packet-awaited : ((d″ : Decoder) (buffer″ : List ℕ) → Agrees (remember s (encoded c) (sizeAfter s c)) d″ buffer″ → d″ .room ≡ d .room → Awaits ps d″ buffer″)
+  pub packet-awaited : ((d″ : Decoder) (buffer″ : List ℕ) → Agrees (remember s (encoded c) (sizeAfter s c)) d″ buffer″ → d″ .setting .room ≡ d .setting .room → Awaits ps d″ buffer″)
       → Awaits (p ∷ ps) d buffer
   packet-awaited then =
       let w = reads in
@@ -156,24 +156,24 @@ body-is c = ap (λ (m : Message). m .payload) (message-is c)
 
 -- what is kept of a run is to come, where encoder and decoder agree at its start
 abbrev Kept : List Sending → Type 0
-Kept xs = (s : ChunkSerializer) (d : Decoder) (buffer : List ℕ) → Agrees s d buffer → longest (kept s xs) ≤ d .room → Awaits (kept s xs) d buffer
+Kept xs = (s : ChunkSerializer) (d : Decoder) (buffer : List ℕ) → Agrees s d buffer → longest (kept s xs) ≤ d .setting .room → Awaits (kept s xs) d buffer
 
 module _ (c : Call) (xs : List Sending) (r : Ranged c) (later : Kept xs) (s : ChunkSerializer) (d : Decoder) (buffer : List ℕ) (a : Agrees s d buffer) where
   abbrev s′ : ChunkSerializer
   s′ = remember s (encoded c) (sizeAfter s c)
 
-  keeps : Accepted s c (encodes s c) → longest (packetFor s c ∷ kept s′ xs) ≤ d .room
+  keeps : Accepted s c (encodes s c) → longest (packetFor s c ∷ kept s′ xs) ≤ d .setting .room
       → Awaits (packetFor s c ∷ kept s′ xs) d buffer
   keeps o fit =
       let l : length (messageOf c .payload) ≡ length (body c) = ap length (body-is c) in
       packet-awaited s d c buffer (kept s′ xs) a r o (omega (arith, l, fit)) (λ d″ buffer″ agree same. later s′ d″ buffer″ agree (omega (arith, same, fit)))
 
-  leaves : mayBeLeftOut c ≡ true → longest (kept s′ xs) ≤ d .room → Awaits (kept s′ xs) d buffer
+  leaves : mayBeLeftOut c ≡ true → longest (kept s′ xs) ≤ d .setting .room → Awaits (kept s′ xs) d buffer
   leaves e fit = later s′ d buffer (left-out s d buffer a (encoded c) (sizeAfter s c) (left-droppable c e) (time-less c r) (left-size s c e)) fit
 
   -- what is kept, by what became of the call
   abbrev Come : List Packet → Type 0
-  Come ps = longest ps ≤ d .room → Awaits ps d buffer
+  Come ps = longest ps ≤ d .setting .room → Awaits ps d buffer
 
   sent-comes : (t : Bool) → (t ≡ false → mayBeLeftOut c ≡ true) → Accepted s c (encodes s c) → Come (keep t (packetFor s c ∷ []) ++ kept s′ xs)
   sent-comes true e o = keeps o
@@ -187,7 +187,7 @@ kept-comes : (xs : List Sending) → InRange xs → LeavesOutDroppable xs → Ke
 kept-comes [] r l s d buffer a fit = (a .ready, a .between-now)
 kept-comes (x ∷ xs) r l s d buffer a fit = call-comes (x .call) xs (r .0) (kept-comes xs (r .1) (l .1)) s d buffer a (x .kept) (l .0) (answers s (x .call)) fit
 
-made-room : (room : ℕ) → 1 ≤ room → room ≤ maxRoom → made room .deserializer .room ≡ room
+made-room : (room : ℕ) → 1 ≤ room → room ≤ maxRoom → made room .deserializer .setting .room ≡ room
 unfolding made
 made-room room p q = rw (ne-eqb room 0 (omega (arith, p)), le-ltb maxRoom room q)
 

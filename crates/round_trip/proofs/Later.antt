@@ -64,11 +64,11 @@ module _ (h : ChunkHeader) (piece xs : List ℕ) (k : Fits h) where
     head-later false e = rw begun
 
     pub later-chunk : (forced : Bool) → (forced ≡ true → h .«timestamp_field» ≡ h .timestamp .value)
-        → length piece ≡ min (d .«max_chunk_size») (h .«message_length» - length xs)
+        → length piece ≡ min (d .setting .size) (h .«message_length» - length xs)
         → Taken d buffer (later forced) h
     later-chunk forced e l = record {
       says = subst (λ (s : Stream). Says s (later forced) h) (sym seen) (says-later forced);
-      fits = subst (λ (s : Stream). FitsStream (d .«max_chunk_size») s (later forced)) (sym seen) (fits-later forced (d .«max_chunk_size») l);
+      fits = subst (λ (s : Stream). FitsStream (d .setting .size) s (later forced)) (sym seen) (fits-later forced (d .setting .size) l);
       basic = basic-later forced;
       head = head-later forced e;
     }

@@ -36,11 +36,11 @@ pub record Awake (d : Decoder) (buffer : List ℕ) (m : Message) (previous : Chu
 
 pub packet-reads : (d : Decoder) (buffer : List ℕ) (m : Message) (previous : ChunkHeader) (payload : List ℕ) → Awake d buffer m previous
     → ((f : ChunkHeaderFormat) → Fits (headerBy f m previous))
-    → 0 < d .«max_chunk_size» → m .length ≡ length payload → 0 < length payload → m .length ≤ d .room
-    → Reads d buffer (header m previous) payload (packet (d .«max_chunk_size») m payload previous)
+    → 0 < d .setting .size → m .length ≡ length payload → 0 < length payload → m .length ≤ d .setting .room
+    → Reads d buffer (header m previous) payload (packet (d .setting .size) m payload previous)
 unfolding packet
 packet-reads d buffer m previous payload w fits some-size long bytes room =
-    let size : ℕ = d .«max_chunk_size» in
+    let size : ℕ = d .setting .size in
     let f : ChunkHeaderFormat = format m previous in
     let g : ChunkHeaderFormat = laterFormat (m .«force_uncompressed») in
     let h : ChunkHeader = header m previous in

@@ -93,7 +93,7 @@ module _ (h : ChunkHeader) (k : Fits h) (forced : Bool) (time : forced ≡ true 
   g = laterFormat forced
 
   -- one of them, given how the others are read
-  next-reads : (d : Decoder) (buffer xs ys : List ℕ) → Ready d buffer → viewed d buffer (h .«chunk_stream_id») ≡ stands h (some xs) → d .«max_chunk_size» ≡ size
+  next-reads : (d : Decoder) (buffer xs ys : List ℕ) → Ready d buffer → viewed d buffer (h .«chunk_stream_id») ≡ stands h (some xs) → d .setting .size ≡ size
       → length xs + length ys ≡ h .«message_length»
       → 0 < length ys
       → (size < length ys → (d′ : Decoder) (buffer′ : List ℕ) → At d buffer h (some (xs ++ take size ys)) d′ buffer′
@@ -117,7 +117,7 @@ module _ (h : ChunkHeader) (k : Fits h) (forced : Bool) (time : forced ≡ true 
   left-less ys b q = rw length-drop (omega (arith, q, some-size))
 
   pub later-reads : (b : ℕ) (d : Decoder) (buffer xs ys : List ℕ) → Ready d buffer → viewed d buffer (h .«chunk_stream_id») ≡ stands h (some xs)
-      → d .«max_chunk_size» ≡ size
+      → d .setting .size ≡ size
       → length xs + length ys ≡ h .«message_length»
       → 0 < length ys
       → length ys ≤ b

@@ -12,7 +12,7 @@ use Rattle.round_trip.specs.Demand3.{Receiver, after, afterOf, last, off
 -- a call of the decoder runs: it is open, and the buffer is long enough
 pub record Ready (r : Receiver) : Type 0 where
   pub closed : r .decoder .closed ≡ 0
-  pub room : r .decoder .room ≤ length (r .buffer)
+  pub room : r .decoder .setting .room ≤ length (r .buffer)
 
 -- and so after any calls
 abbrev pub Always : Receiver → Type 0

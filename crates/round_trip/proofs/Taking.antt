@@ -28,8 +28,8 @@ pub record At (d : Decoder) (buffer : List ℕ) (h : ChunkHeader) (come : Option
   pub ready : Ready d′ buffer′
   pub mine : viewed d′ buffer′ (h .«chunk_stream_id») ≡ stands h come
   pub others : (id : ℕ) → id ≢ 0 → id ≢ h .«chunk_stream_id» → viewed d′ buffer′ id ≡ viewed d buffer id
-  pub room : d′ .room ≡ d .room
-  pub size : d′ .«max_chunk_size» ≡ d .«max_chunk_size»
+  pub room : d′ .setting .room ≡ d .setting .room
+  pub size : d′ .setting .size ≡ d .setting .size
   pub spare : Spare (d .rows) → Spare (d′ .rows)
 
 pub at-then : {d d′ d″ : Decoder} {buffer buffer′ buffer″ : List ℕ} {h : ChunkHeader} {come come′ : Option (List ℕ)} → At d buffer h come d′ buffer′

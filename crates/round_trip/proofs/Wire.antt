@@ -66,6 +66,6 @@ Says s c h = said (time s c) (saying s c .field) (saying s c .length) (saying s 
 -- a chunk that its stream and the decoder take
 pub record Taken (d : Decoder) (buffer : List ℕ) (c : Chunk) (h : ChunkHeader) : Type 0 where
   pub says : Says (viewed d buffer (c .id)) c h
-  pub fits : FitsStream (d .«max_chunk_size») (viewed d buffer (c .id)) c
+  pub fits : FitsStream (d .setting .size) (viewed d buffer (c .id)) c
   pub basic : basicRefused d c ≡ 0
   pub head : headerRefused d c ≡ 0

@@ -11,7 +11,7 @@ ghost use Rattle.byte_machine.specs.Header.{extendedNext, lengthNext, streamNex
 ghost use Rattle.byte_machine.specs.Header.{lacks as Header·lacks};
 ghost use Rattle.held.specs.Done.{doneOf};
 ghost use Rattle.settling.specs.Opened.{openedTo};
-ghost use Rattle.held.specs.Numbers.{formatFrom, readerFrom, rowFrom};
+ghost use Rattle.held.specs.Numbers.{formatFrom, readerFrom, rowFrom, settingIn};
 use chunk_header::HeaderField;
 use chunk_header::MAX_INITIAL_TIMESTAMP;
 use chunk_header::field_length;
@@ -127,7 +127,7 @@ fn sum(a: u32, b: u32) -> u32
 // A header that is whole, with the number that it says of the time.
 pub fn settled(h: Held, time: u32) -> Done
     requires { ⌜ h .format ≤ 3 ⌝ }
-    ensures { λ r. ⌜ r ≡ doneOf h (whole (h .room) (h .size) (readerFrom h) time) ⌝ }
+    ensures { λ r. ⌜ r ≡ doneOf h (whole (settingIn h) (readerFrom h) time) ⌝ }
 {
     if h.id == 0 {
         let k = first_refusal(h, time);
@@ -145,7 +145,7 @@ pub fn settled(h: Held, time: u32) -> Done
 
 pub fn extended_next(h: Held) -> Done
     requires { ⌜ h .format ≤ 3 ⌝ }
-    ensures { λ r. ⌜ r ≡ doneOf h (extendedNext (h .room) (h .size) (readerFrom h)) ⌝ }
+    ensures { λ r. ⌜ r ≡ doneOf h (extendedNext (settingIn h) (readerFrom h)) ⌝ }
 {
     if h.header.field == MAX_INITIAL_TIMESTAMP {
         return goes(h, 7, 0, 4);
@@ -163,7 +163,7 @@ fn lacks(h: Held, field: HeaderField) -> u32
 // Each field comes next, or is passed over where the format does not have it.
 pub fn stream_next(h: Held) -> Done
     requires { ⌜ h .format ≤ 3 ⌝ }
-    ensures { λ r. ⌜ r ≡ doneOf h (streamNext (h .room) (h .size) (readerFrom h)) ⌝ }
+    ensures { λ r. ⌜ r ≡ doneOf h (streamNext (settingIn h) (readerFrom h)) ⌝ }
 {
     let n = lacks(h, HeaderField::MessageStreamId);
     if n == 0 {
@@ -174,7 +174,7 @@ pub fn stream_next(h: Held) -> Done
 
 pub fn type_next(h: Held) -> Done
     requires { ⌜ h .format ≤ 3 ⌝ }
-    ensures { λ r. ⌜ r ≡ doneOf h (typeNext (h .room) (h .size) (readerFrom h)) ⌝ }
+    ensures { λ r. ⌜ r ≡ doneOf h (typeNext (settingIn h) (readerFrom h)) ⌝ }
 {
     let n = lacks(h, HeaderField::MessageTypeId);
     if n == 0 {
@@ -185,7 +185,7 @@ pub fn type_next(h: Held) -> Done
 
 pub fn length_next(h: Held) -> Done
     requires { ⌜ h .format ≤ 3 ⌝ }
-    ensures { λ r. ⌜ r ≡ doneOf h (lengthNext (h .room) (h .size) (readerFrom h)) ⌝ }
+    ensures { λ r. ⌜ r ≡ doneOf h (lengthNext (settingIn h) (readerFrom h)) ⌝ }
 {
     let n = lacks(h, HeaderField::MessageLength);
     if n == 0 {
@@ -196,7 +196,7 @@ pub fn length_next(h: Held) -> Done
 
 pub fn timestamp_next(h: Held) -> Done
     requires { ⌜ h .format ≤ 3 ⌝ }
-    ensures { λ r. ⌜ r ≡ doneOf h (timestampNext (h .room) (h .size) (readerFrom h)) ⌝ }
+    ensures { λ r. ⌜ r ≡ doneOf h (timestampNext (settingIn h) (readerFrom h)) ⌝ }
 {
     let n = lacks(h, HeaderField::Timestamp);
     if n == 0 {

@@ -35,10 +35,10 @@ module _ {came : List Sign} {messages : List Message} {d : Decoder} {buffer : Li
     id = c .id;
     header = c .header;
     extended = c .extended;
-    payload = replicate (min (d .«max_chunk_size») (saying (viewed d buffer (c .id)) c .length - length (earlier (viewed d buffer (c .id)) c))) 0;
+    payload = replicate (min (d .setting .size) (saying (viewed d buffer (c .id)) c .length - length (earlier (viewed d buffer (c .id)) c))) 0;
   }
 
-  begun-by : (c : Chunk) (b : ℕ) (tail : List ℕ) → Fits (d .«max_chunk_size») (viewed d buffer (c .id)) c → chunkBytes c ≡ full ++ (b ∷ tail) → BegunFrom initialSize quiet (w .items) full
+  begun-by : (c : Chunk) (b : ℕ) (tail : List ℕ) → Fits (d .setting .size) (viewed d buffer (c .id)) c → chunkBytes c ≡ full ++ (b ∷ tail) → BegunFrom initialSize quiet (w .items) full
   begun-by c b tail fits is = record {
     next-chunk = c;
     fits = rw (w .in-force, w .sees (c .id) (id-some (c .form) (c .id) (fits .head .form))) at fits;

@@ -68,7 +68,7 @@ module _ (d : Decoder) (buffer : List ℕ) (c : Chunk) where
 -- a chunk whose basic header is not refused
 pub record Named (d : Decoder) (buffer : List ℕ) (c : Chunk) : Type 0 where
   pub reached : Reached d
-  pub long : d .room ≤ length buffer
+  pub long : d .setting .room ≤ length buffer
   pub form : FormFits (c .form) (c .id)
   pub passes : basicRefused d c ≡ 0
 
@@ -101,10 +101,10 @@ module _ {d : Decoder} {buffer : List ℕ} {c : Chunk} (h : Named d buffer c) wh
   payload-length = length-append (earlier s c) (c .payload) ∙ rw earlier-length
 
   -- to fit the stream is to fit the decoder
-  pub chunk-fits : Fits (d .«max_chunk_size») s c → ChunkFits d c
+  pub chunk-fits : Fits (d .setting .size) s c → ChunkFits d c
   chunk-fits f = record { head = head-fits d buffer c (f .head); payload = rw (saying-is d buffer c, earlier-length) at (f .payload-of) }
 
-  pub stream-fits : ChunkFits d c → Fits (d .«max_chunk_size») s c
+  pub stream-fits : ChunkFits d c → Fits (d .setting .size) s c
   stream-fits f = record { head = head-seen d buffer c (f .head); payload-of = rw (saying-is d buffer c, earlier-length) (f .payload) }
 
   -- what is stored

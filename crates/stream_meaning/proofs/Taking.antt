@@ -159,7 +159,7 @@ module _ {d : Decoder} {buffer : List ℕ} {c : Chunk} (r : Ready d buffer) (h :
     long = rw (length-sets buffer (got d c) (c .payload)) (r .long);
   }
 
-  same-after : (taking d c .room ≡ d .room) × (taking d c .«max_chunk_size» ≡ d .«max_chunk_size»)
+  same-after : (taking d c .setting .room ≡ d .setting .room) × (taking d c .setting .size ≡ d .setting .size)
   unfolding after
   same-after = (refl, refl)
 
@@ -176,7 +176,7 @@ module _ {d : Decoder} {buffer : List ℕ} {c : Chunk} (r : Ready d buffer) (h :
   }
 
 -- a chunk that fits its stream and that is refused at neither end of its header; the ids stand in the table in the order in which they came
-module _ {d : Decoder} {buffer : List ℕ} (c : Chunk) (r : Ready d buffer) (fits : Fits (d .«max_chunk_size») (viewed d buffer (c .id)) c)
+module _ {d : Decoder} {buffer : List ℕ} (c : Chunk) (r : Ready d buffer) (fits : Fits (d .setting .size) (viewed d buffer (c .id)) c)
     (basic : basicRefused d c ≡ 0) (head : headerRefused d c ≡ 0) where
   named : Named d buffer c
   named = record { reached = made-reaches (r .by-calls); long = r .long; form = fits .head .form; passes = basic }
@@ -195,10 +195,10 @@ own-stream d buffer c r fits h = let head = head-fits d buffer c (fits .head) in
 
 -- a chunk that fits the decoder and is not refused fits its stream
 pub fits-stream : (d : Decoder) (buffer : List ℕ) (c : Chunk) → Ready d buffer → ChunkFits d c → NotRefused (fed d buffer c .answer)
-    → Fits (d .«max_chunk_size») (viewed d buffer (c .id)) c
+    → Fits (d .setting .size) (viewed d buffer (c .id)) c
 fits-stream d buffer c r fits h = stream-fits (is-named c r (fits .head) h) fits
 
-pub lists-after : (d : Decoder) (buffer : List ℕ) (c : Chunk) (r : Ready d buffer) → Fits (d .«max_chunk_size») (viewed d buffer (c .id)) c
+pub lists-after : (d : Decoder) (buffer : List ℕ) (c : Chunk) (r : Ready d buffer) → Fits (d .setting .size) (viewed d buffer (c .id)) c
     → NotRefused (fed d buffer c .answer)
     → {ids : List ℕ}
     → Lists (d .rows) ids

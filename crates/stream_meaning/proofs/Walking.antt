@@ -151,7 +151,7 @@ module _ {came : List Sign} {messages : List Message} {d : Decoder} {buffer : Li
     not-refused number n e =
         quiet-call number n (ap (λ (o : Outcome). o .answer) (feed-answered d (chunkBytes c) rest buffer (λ m z. refused-not-more (sym e ∙ z))) ∙ e)
 
-    fits-it : Fits (d .«max_chunk_size») (viewed d buffer (c .id)) c
+    fits-it : Fits (d .setting .size) (viewed d buffer (c .id)) c
     fits-it = fits-stream d buffer c (w .ready) fits not-refused
 
     pub next-whole : Whole (came ++ signs (chunkBytes c)) (messages ++ handedBy (fed d buffer c .answer) (fed d buffer c .payload)) (fed d buffer c .deserializer) (fed d buffer c .payload)

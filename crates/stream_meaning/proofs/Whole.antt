@@ -38,11 +38,11 @@ pub record Whole (came : List Sign) (messages : List Message) (d : Decoder) (buf
   pub ready : Ready d buffer
   pub sees : Sees d buffer (streams items)
   pub fits : AllFit items
-  pub in-force : d .«max_chunk_size» ≡ sizeFrom initialSize items
+  pub in-force : d .setting .size ≡ sizeFrom initialSize items
   pub handed-out : messages ≡ means items
   pub is : came ≡ signsOf items
   pub ids : Lists (d .rows) (opened items)
-  pub fit-room : (id : ℕ) → saidOn (streams items id) .length ≤ d .room
+  pub fit-room : (id : ℕ) → saidOn (streams items id) .length ≤ d .setting .room
 
 -- the answer hands out what is to be handed out
 answers-listed : (h : Option Message) (used : ℕ) (o : Outcome) → Answers h used o → handedBy (o .answer) (o .payload) ≡ listed h
@@ -68,7 +68,7 @@ room-after streams c room new h id = by-id (eqb id (c .id))
 
 -- a chunk that is not refused
 module _ {came : List Sign} {messages : List Message} {d : Decoder} {buffer : List ℕ} (w : Whole came messages d buffer) (c : Chunk)
-    (fits : Fits (d .«max_chunk_size») (viewed d buffer (c .id)) c) (h : NotRefused (fed d buffer c .answer)) where
+    (fits : Fits (d .setting .size) (viewed d buffer (c .id)) c) (h : NotRefused (fed d buffer c .answer)) where
   n : c .id ≢ 0
   n = id-some (c .form) (c .id) (fits .head .form)
 
@@ -104,7 +104,7 @@ module _ {came : List Sign} {messages : List Message} {d : Decoder} {buffer : Li
         ids = rw (opened-append (w .items) (chunk c ∷ []) []) (lists-after d buffer c (w .ready) fits h (w .ids));
         fit-room =
             rw (streams-append (w .items) (chunk c ∷ []) quiet, t .same-room)
-            (room-after (streams (w .items)) c (d .room) (subst (λ (s : Stream). saying s c .length ≤ d .room) same (t .fits-room)) (w .fit-room));
+            (room-after (streams (w .items)) c (d .setting .room) (subst (λ (s : Stream). saying s c .length ≤ d .setting .room) same (t .fits-room)) (w .fit-room));
       }
 
 -- a size that is taken

@@ -23,6 +23,7 @@ use Rattle.decoding.proofs.Fitting.{paying-pays}
 use Rattle.decoding.proofs.Reached.{Reached, made-reaches, step-reached}
 use Rattle.decoding.proofs.Runs.{next-runs}
 use Rattle.decoding.proofs.Sound.{in-payload-past}
+use Rattle.byte_machine.specs.Look.{look}
 
 -- where a byte leaves the reader, unless it is answered
 abbrev Stays : ℕ → Event → Reader → Type 0
@@ -54,7 +55,7 @@ module _ (d : Decoder) (b : ℕ) (k : Reached d) where
   payload-step : inPayload (d .reader .stage) ≡ true → (buffer : List ℕ) → (writes d buffer b ≡ set buffer (d .reader .message .got) b) × At (d .reader .message .got + 1) (stepOf d b)
   unfolding writes stepOf
   payload-step e buffer =
-      let p = paying-pays (d .room) _ (d .reader) (k .fits .paying e) in
+      let p = paying-pays (d .setting .room) _ (d .reader) (k .fits .paying e) in
       rw (e, p) (refl, landed-at (d .reader) e (k .sound .owns (in-payload-past (d .reader .stage) e) .used))
 
   header-byte : inPayload (d .reader .stage) ≡ false → (buffer : List ℕ) → (writes d buffer b ≡ buffer) × At (comeOf (d .reader .message)) (stepOf d b)
@@ -63,8 +64,8 @@ module _ (d : Decoder) (b : ℕ) (k : Reached d) where
       let m = d .reader .message in
       rw e (
         refl,
-        header-step (At (comeOf m)) m (d .room) (d .«max_chunk_size») (λ r place q a. goes-at r (ap comeOf q) a) (λ r k. tt)
-            (λ r got q z. rw z (opens-at (d .«max_chunk_size») r (comeOf m))) (d .reader .stage) (d .rows) (d .reader) b refl,
+        header-step (At (comeOf m)) m (d .setting) (λ r place q a. goes-at r (ap comeOf q) a) (λ r k. tt)
+            (λ r got q z. rw z (opens-at (d .setting .size) r (comeOf m))) (d .reader .stage) (look (d .rows)) (d .reader) b refl,
       )
 
 -- a byte, and those after it
@@ -105,10 +106,10 @@ run-writes (x ∷ a) d buffer n k =
     byte-writes x d buffer n k (payloadIn a (after d (stepOf d x))) _ (run-writes a (after d (stepOf d x)) (writes d buffer x) (n + 1) (step-reached d x k))
 
 -- and the run ends within the room
-place-within : (d : Decoder) → Reached d → placeIn (d .reader) ≤ d .room
+place-within : (d : Decoder) → Reached d → placeIn (d .reader) ≤ d .setting .room
 place-within d k = by-stage (inPayload (d .reader .stage)) refl (eqb (d .reader .message .id) 0) refl
   where
-    by-stage : (t : Bool) → inPayload (d .reader .stage) ≡ t → (u : Bool) → eqb (d .reader .message .id) 0 ≡ u → placeIn (d .reader) ≤ d .room
+    by-stage : (t : Bool) → inPayload (d .reader .stage) ≡ t → (u : Bool) → eqb (d .reader .message .id) 0 ≡ u → placeIn (d .reader) ≤ d .setting .room
     by-stage true e u q = let p = k .fits .paying e in rw e (omega (arith, p .ends, p .fits))
     by-stage false e true q = rw (e, q) (omega arith)
     by-stage false e false q = let n = eqb-false _ _ q in rw (e, q) (omega (arith, k .fits .got n, k .fits .room-for n))
@@ -124,30 +125,30 @@ module _ (x : ℕ) (d : Decoder) (k : Reached d) (later : List ℕ) where
   abbrev first : Stepped
   first = stepOf d x
 
-  byte-within : (isRefusal (first .event) ≡ false → placeIn (first .reader) + length later ≤ d .room)
-      → placeIn (d .reader) + length (due d x ++ unlessAnswered (first .event) later) ≤ d .room
+  byte-within : (isRefusal (first .event) ≡ false → placeIn (first .reader) + length later ≤ d .setting .room)
+      → placeIn (d .reader) + length (due d x ++ unlessAnswered (first .event) later) ≤ d .setting .room
   byte-within rest = by-stage (inPayload (d .reader .stage)) refl
     where
-      by-stage : (t : Bool) → inPayload (d .reader .stage) ≡ t → placeIn (d .reader) + length (due d x ++ unlessAnswered (first .event) later) ≤ d .room
+      by-stage : (t : Bool) → inPayload (d .reader .stage) ≡ t → placeIn (d .reader) + length (due d x ++ unlessAnswered (first .event) later) ≤ d .setting .room
       by-stage true e =
           let p = k .fits .paying e in
           let w = payload-step d x k e [] in
-          let h = then-within (first .event) (first .reader) (d .reader .message .got + 1) (d .room) later (w .1) (omega (arith, p .some, p .ends, p .fits)) rest in
+          let h = then-within (first .event) (first .reader) (d .reader .message .got + 1) (d .setting .room) later (w .1) (omega (arith, p .some, p .ends, p .fits)) rest in
           rw e (omega (arith, h))
       by-stage false e =
           let w = header-byte d x k e [] in
-          let h : comeOf (d .reader .message) ≤ d .room = rw e at (place-within d k) in
-          rw e (then-within (first .event) (first .reader) (comeOf (d .reader .message)) (d .room) later (w .1) h rest)
+          let h : comeOf (d .reader .message) ≤ d .setting .room = rw e at (place-within d k) in
+          rw e (then-within (first .event) (first .reader) (comeOf (d .reader .message)) (d .setting .room) later (w .1) h rest)
 
 reader-on : (d : Decoder) (s : Stepped) → isRefusal (s .event) ≡ false → placeIn (after d s .reader) ≡ placeIn (s .reader)
 unfolding after
 reader-on d s e = rw e
 
-same-room : (d : Decoder) (s : Stepped) → after d s .room ≡ d .room
+same-room : (d : Decoder) (s : Stepped) → after d s .setting .room ≡ d .setting .room
 unfolding after
 same-room d s = refl
 
-run-within : (a : List ℕ) (d : Decoder) → Reached d → placeIn (d .reader) + length (payloadIn a d) ≤ d .room
+run-within : (a : List ℕ) (d : Decoder) → Reached d → placeIn (d .reader) + length (payloadIn a d) ≤ d .setting .room
 unfolding payloadIn
 run-within [] d k = let p = place-within d k in omega (arith, p)
 run-within (x ∷ a) d k =

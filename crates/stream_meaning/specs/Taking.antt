@@ -32,14 +32,14 @@ pub record Took (d : Decoder) (buffer : List ℕ) (c : Chunk) (o : Outcome) : Ty
   pub others : (id : ℕ) → id ≢ 0 → id ≢ c .id → viewed (o .deserializer) (o .payload) id ≡ viewed d buffer id
   pub answers : Answers (hands (viewed d buffer (c .id)) c) (length (chunkBytes c)) o
   pub writes : o .payload ≡ sets buffer (length (earlier (viewed d buffer (c .id)) c)) (c .payload)
-  pub fits-room : saying (viewed d buffer (c .id)) c .length ≤ d .room
+  pub fits-room : saying (viewed d buffer (c .id)) c .length ≤ d .setting .room
   pub ready : Ready (o .deserializer) (o .payload)
-  pub same-room : o .deserializer .room ≡ d .room
-  pub same-size : o .deserializer .«max_chunk_size» ≡ d .«max_chunk_size»
+  pub same-room : o .deserializer .setting .room ≡ d .setting .room
+  pub same-size : o .deserializer .setting .size ≡ d .setting .size
 
 abbrev pub OwnStream : Type 0
 OwnStream =
-    (d : Decoder) (buffer : List ℕ) (c : Chunk) → Ready d buffer → Fits (d .«max_chunk_size») (viewed d buffer (c .id)) c
+    (d : Decoder) (buffer : List ℕ) (c : Chunk) → Ready d buffer → Fits (d .setting .size) (viewed d buffer (c .id)) c
     → NotRefused (fed d buffer c .answer)
     → Took d buffer c (fed d buffer c)
 

@@ -32,10 +32,10 @@ payloadIn (b ∷ bs) d = due d b ++ unlessAnswered (stepOf d b .event) (payloadI
 -- "a call writes only the payload bytes that it used, at their own places", all of them within the room
 pub record Writes (d : Decoder) (input buffer : List ℕ) : Type 0 where
   pub stores : next d input buffer .payload ≡ sets buffer (placeIn (d .reader)) (payloadIn input d)
-  pub within : placeIn (d .reader) + length (payloadIn input d) ≤ d .room
+  pub within : placeIn (d .reader) + length (payloadIn input d) ≤ d .setting .room
 
 abbrev pub WritesExactly : Type 0
-WritesExactly = (d : Decoder) → Made d → (input buffer : List ℕ) → d .closed ≡ 0 → d .room ≤ length buffer → Writes d input buffer
+WritesExactly = (d : Decoder) → Made d → (input buffer : List ℕ) → d .closed ≡ 0 → d .setting .room ≤ length buffer → Writes d input buffer
 
 -- of bytes cut in two, those of the first part, and then those of the second
 abbrev pub OfParts : Type 0

@@ -11,14 +11,14 @@ use Rattle.chunk_header.specs.Table.{formatOf}
 use Rattle.byte_machine.specs.Reader.{Stepped}
 use Rattle.byte_machine.specs.Step.{basicBy}
 use Rattle.held.specs.declared.numbers.Held.{Held}
-use Rattle.held.specs.declared.numbers.Done.{Done}
 use Rattle.held.specs.Done.{doneOf}
-use Rattle.held.specs.Numbers.{codeOf, readerFrom, stageIn}
+use Rattle.held.specs.Numbers.{codeOf, readerFrom, settingIn, stageIn}
 use Rattle.held.proofs.Stages.{code-again}
 use Rattle.header_in_place.specs.Byte.{bytesOf, keptOf}
 use Rattle.header_in_place.proofs.Naming.{basic-at}
 use Rattle.header_in_place.proofs.basic.basic_byte.Statement.{statement}
 use Rattle.header_in_place.proofs.basic.basic_byte.Tie as tie
+use Rattle.byte_machine.specs.Look.{look}
 
 get-csid-requires : tie.Need-get-csid-requires
 get-csid-requires c κs = search needs
@@ -44,8 +44,8 @@ returns c =
     let rows = s .args .rows .now in
     let read : csid (bytesOf (stageIn h) b) ≡ Incomplete = sym (c .before .before .before .get-csid .ensures) ∙ c .before .enum-told .given .1 in
     c .keeps .ensures
-    ∙ ap (λ (x : Csid). doneOf h (basicBy x (h .room) (h .size) rows (readerFrom h) (formatOf (getD (bytesOf (stageIn h) b) 0 0)) (keptOf (stageIn h) b))) (sym read)
-    ∙ ap (λ (x : Stepped). doneOf h x) (basic-at (stageIn h) (h .room) (h .size) rows (readerFrom h) b (low h (s .pre .1)))
+    ∙ ap (λ (x : Csid). doneOf h (basicBy x (settingIn h) (look rows) (readerFrom h) (formatOf (getD (bytesOf (stageIn h) b) 0 0)) (keptOf (stageIn h) b))) (sym read)
+    ∙ ap (λ (x : Stepped). doneOf h x) (basic-at (stageIn h) (settingIn h) (look rows) (readerFrom h) b (low h (s .pre .1)))
 
 first-of-requires : tie.Need-first-of-requires
 first-of-requires c κs = search needs
@@ -62,9 +62,9 @@ returns-2 c =
     let id = c .before .before .before .read .given .0 .0 in
     let read : csid (bytesOf (stageIn h) b) ≡ Id id = sym (c .before .before .before .before .before .get-csid .ensures) ∙ c .before .before .before .read .given .1 in
     c .named .ensures
-    ∙ ap (λ (n : ℕ). doneOf h (basicBy (Id id) (h .room) (h .size) rows (readerFrom h) (formatOf n) (keptOf (stageIn h) b))) (c .before .first-of .ensures)
-    ∙ ap (λ (x : Csid). doneOf h (basicBy x (h .room) (h .size) rows (readerFrom h) (formatOf (getD (bytesOf (stageIn h) b) 0 0)) (keptOf (stageIn h) b))) (sym read)
-    ∙ ap (λ (x : Stepped). doneOf h x) (basic-at (stageIn h) (h .room) (h .size) rows (readerFrom h) b (low h (s .pre .1)))
+    ∙ ap (λ (n : ℕ). doneOf h (basicBy (Id id) (settingIn h) (look rows) (readerFrom h) (formatOf n) (keptOf (stageIn h) b))) (c .before .first-of .ensures)
+    ∙ ap (λ (x : Csid). doneOf h (basicBy x (settingIn h) (look rows) (readerFrom h) (formatOf (getD (bytesOf (stageIn h) b) 0 0)) (keptOf (stageIn h) b))) (sym read)
+    ∙ ap (λ (x : Stepped). doneOf h x) (basic-at (stageIn h) (settingIn h) (look rows) (readerFrom h) b (low h (s .pre .1)))
 
 pub basic-byte-spec : {M : Type 1} → statement M
 basic-byte-spec =

@@ -1,5 +1,5 @@
 -- The byte itself, or the one that was kept first.
-use mathlib.Core.Path.{_≡_, sym, ap}
+use mathlib.Core.Path.{sym, ap}
 use native.Mathlib.Omega.{arith}
 use lib.ListN.{getD}
 use Rattle.byte_machine.specs.Reader.{Stage}

@@ -7,7 +7,7 @@ use Rattle.byte_machine.specs.Step.{known}
 use Rattle.held.proofs.Formats.{small-type}
 use Rattle.held.specs.declared.numbers.HeldRow.{HeldRow}
 use Rattle.held.specs.Done.{doneOf}
-use Rattle.held.specs.Numbers.{formatFrom, readerFrom, rowFrom}
+use Rattle.held.specs.Numbers.{formatFrom, readerFrom, rowFrom, settingIn}
 use Rattle.byte_machine.proofs.RowLaws.{find-within}
 use Rattle.header_in_place.proofs.Naming.{row-refused, row-known, new-refused, new-claims}
 use Rattle.header_in_place.proofs.basic.named.Statement.{statement}
@@ -38,7 +38,7 @@ known-requires : tie.Need-known-requires
 known-requires c κs = rw (c .before .before .before .before .before .before .before .type-in .ensures) (small-type (c .before .before .before .before .before .before .before .before .args .first))
 
 returns-2 : tie.Need-returns-2
-returns-2 c = let a = c .before .before .before .before .before .before .before .before .before .args in let t = c .before .before .before .before .before .before .before .before .type-in .result in let p = c .before .before .before .before .before .before .before .find .result in c .known .ensures ∙ ap (λ (row : HeldRow). doneOf (a .h) (known (a .h .room) (a .h .size) (readerFrom (a .h)) (formatFrom t) (rowFrom row) p)) (c .before .row-in .ensures) ∙ row-known (a .h) (a .rows .now) (a .first) (a .id) t p (c .before .before .before .basic-refusal .result) (c .before .before .before .before .before .before .before .before .type-in .ensures) (c .before .before .before .before .before .before .before .find .ensures) (c .before .before .before .basic-refusal .ensures) (c .before .before .before .before .before .before .if1 .taken) (c .before .before .if2 .left)
+returns-2 c = let a = c .before .before .before .before .before .before .before .before .before .args in let t = c .before .before .before .before .before .before .before .before .type-in .result in let p = c .before .before .before .before .before .before .before .find .result in c .known .ensures ∙ ap (λ (row : HeldRow). doneOf (a .h) (known (settingIn (a .h)) (readerFrom (a .h)) (formatFrom t) (rowFrom row) p)) (c .before .row-in .ensures) ∙ row-known (a .h) (a .rows .now) (a .first) (a .id) t p (c .before .before .before .basic-refusal .result) (c .before .before .before .before .before .before .before .before .type-in .ensures) (c .before .before .before .before .before .before .before .find .ensures) (c .before .before .before .basic-refusal .ensures) (c .before .before .before .before .before .before .if1 .taken) (c .before .before .if2 .left)
 
 find-requires-2 : tie.Need-find-requires-2
 find-requires-2 c κs = search needs

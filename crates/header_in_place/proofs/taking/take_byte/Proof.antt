@@ -6,7 +6,7 @@ use mathlib.Core.Path.{sym, ap, subst, _∙_}
 use lib.ListN.{getD}
 use borrow.Author.Needs.{needs}
 use Rattle.byte_machine.specs.Rows.{putAt}
-use Rattle.held.specs.Numbers.{readerFrom, rowFrom, meant, numbersOf, heldOf}
+use Rattle.held.specs.Numbers.{heldOf, meant, numbersOf, readerFrom, rowFrom, settingIn}
 use Rattle.held.specs.declared.numbers.Held.{Held}
 use Rattle.held.specs.declared.numbers.Done.{Done}
 use Rattle.held.specs.Done.{doneOf}
@@ -36,7 +36,7 @@ returns c =
     let done = c .before .before .before .before .step in
     let st = stepIn (meant h rows) (a .byte) in
     let ev = sym (ap (λ (d : Done). d .event) (done .ensures)) ∙ c .before .before .if1 .taken in
-    let stored = c .numbers-of .ensures ∙ ap (λ (x : Held). numbersOf x) (c .before .shut .ensures) ∙ ap (λ (d : Done). numbersOf (heldOf (h .room) (h .size) (d .number) (readerFrom h))) (done .ensures) in
+    let stored = c .numbers-of .ensures ∙ ap (λ (x : Held). numbersOf x) (c .before .shut .ensures) ∙ ap (λ (d : Done). numbersOf (heldOf (settingIn h) (d .number) (readerFrom h))) (done .ensures) in
     let left = subst (λ (l : List ℕ). Left 3 l rows (meant h rows) st) (sym stored) (left-refused h rows (st .reader) (st .event) (st .place) ev) in
     subst (λ (x : Held). Left 3 (c .numbers-of .result) rows (meant x rows) (stepIn (meant x rows) (a .byte))) (c .before .before .before .before .before .before .held-in .ensures) left
 

@@ -3,7 +3,7 @@ use mathlib.Core.Path.{ap, _∙_}
 use lib.ListN.{getD}
 use borrow.Author.Needs.{needs}
 use Rattle.held.specs.declared.numbers.Held.{Held}
-use Rattle.held.specs.Numbers.{heldOf, numbersOf, readerFrom}
+use Rattle.held.specs.Numbers.{heldOf, numbersOf, readerFrom, settingIn}
 use Rattle.held.proofs.Formats.{type-small}
 use Rattle.held.proofs.renewing.renew.Statement.{statement}
 use Rattle.held.proofs.renewing.renew.Tie as tie
@@ -21,7 +21,7 @@ returns : tie.Need-returns
 returns c =
     c .numbers-of .ensures
     ∙ ap (λ (x : Held). numbersOf x) (c .before .shut .ensures)
-    ∙ ap (λ (x : Held). numbersOf (heldOf (x .room) (x .size) (x .closed) (readerFrom x))) (c .before .before .held-in .ensures)
+    ∙ ap (λ (x : Held). numbersOf (heldOf (settingIn x) (x .closed) (readerFrom x))) (c .before .before .held-in .ensures)
 
 pub renew-spec : {M : Type 1} → statement M
 renew-spec = tie.close (tie.spec held-in-requires shut-requires numbers-of-requires returns)

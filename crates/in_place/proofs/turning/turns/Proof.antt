@@ -6,7 +6,6 @@ use mathlib.Core.Logic.{_≢_}
 use mathlib.Core.List.{List}
 use native.Mathlib.Omega.{arith}
 use lib.ListN.{drop, getD, length, length-drop, length-take}
-use borrow.Author.Needs.{needs}
 use Rattle.decoding.specs.Answer.{Listed, more}
 use Rattle.decoding.specs.Call.{outcome, run}
 use Rattle.decoding.proofs.Runs.{run-end}

@@ -8,7 +8,7 @@ use Rattle.fields.specs.Output.{stored}
 use Rattle.fields.proofs.Tests.{never}
 use Rattle.byte_machine.specs.Payload.{paid}
 use Rattle.held.specs.declared.numbers.Held.{Held}
-use Rattle.held.specs.Numbers.{heldOf, numbersOf, readerFrom}
+use Rattle.held.specs.Numbers.{heldOf, numbersOf, readerFrom, settingIn}
 use Rattle.held.proofs.Formats.{type-small}
 use Rattle.one_stroke.proofs.Strokes.{piece-taken}
 use borrow.Author.Needs.{needs}
@@ -56,7 +56,7 @@ returns-2 c =
     let i = c .before .before .before .before .before .before .before .held-in in
     let w = c .before .before .before .before .before .before .before .before .before .before .lies-outside .ensures (c .before .before .before .before .before .before .before .before .before .if1 .left) in
     let numbers = c .before .before .before .before .before .numbers-of .ensures ∙ ap (λ (x : Held). numbersOf x) (c .before .before .before .before .before .before .nearer .ensures)
-    ∙ ap (λ (x : Held). numbersOf (heldOf (x .room) (x .size) (x .closed) (paid (readerFrom x) (x .got + length input) (x .left - length input)))) (i .ensures)
+    ∙ ap (λ (x : Held). numbersOf (heldOf (settingIn x) (x .closed) (paid (readerFrom x) (x .got + length input) (x .left - length input)))) (i .ensures)
     in
     let buffer = c .before .before .put-piece .ensures ∙ ap (λ (n : ℕ). stored (a .payload .now) n input) (c .before .before .before .wide .ensures ∙ ap (λ (x : Held). x .got) (i .ensures)) in
     record { taken = λ _ rows. piece-taken held rows input (a .payload .now) (c .before .before .before .before .before .numbers-of .result) (c .before .before .put-piece .last .1 .0) (w .lies rows) numbers buffer; numbers = λ e. never (sym e); buffer = λ e. never (sym e) }
