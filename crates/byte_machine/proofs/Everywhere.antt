@@ -15,7 +15,7 @@ use Rattle.chunk_header.specs.Table.{formatOf}
 use Rattle.chunk_meaning.specs.Meaning.{basicRefusal, firstRefusal, laterRefusal}
 use Rattle.byte_machine.specs.Reader.{Go, Reader, Stage, Csid as AtCsid, CsidSecond, CsidThird, InitialTimestamp, MessageLength, MessageTypeId, MessageStreamId, ExtendedTimestamp, MessagePayload, Stepped, Unfinished, at, atStart, comeOf, go, guard, inPayload, refuse}
 use Rattle.byte_machine.specs.Header.{extendedNext, lacks, lengthNext, opens, stageOf, streamNext, timestampNext, typeNext, whole}
-use Rattle.byte_machine.specs.Rows.{find, free}
+use Rattle.byte_machine.specs.Rows.{find, free, rowCount}
 use Rattle.byte_machine.specs.Step.{basicBy, extendedField, lengthField, named, stepped, streamField, timestampField, typeField}
 use Rattle.byte_machine.proofs.Passing.{at-length, at-stream, at-timestamp, at-type, either, tested}
 
@@ -72,9 +72,9 @@ module _ (P : Stepped → Type 0) (m : Unfinished) (room size : ℕ)
   at-named : (rows : List ℕ) (r : Reader) (f : ChunkHeaderFormat) (id : ℕ) → r .message ≡ m → P (named room size rows r f id)
   unfolding named
   at-named rows r f id e =
-      let k = basicRefusal f (ltb (find rows id) 64) (ltb (free rows) 64) (not (eqb (r .message .id) 0)) (eqb (r .message .id) id) in
+      let k = basicRefusal f (ltb (find rows id) rowCount) (ltb (free rows) rowCount) (not (eqb (r .message .id) 0)) (eqb (r .message .id) id) in
       either P (eqb k 0)
-      (either P (ltb (find rows id) 64) (timestamp-at _ e) (goes _ _ e (record { begun = refl; no-payload = refl })))
+      (either P (ltb (find rows id) rowCount) (timestamp-at _ e) (goes _ _ e (record { begun = refl; no-payload = refl })))
       (refuses r k)
 
   at-basic : (x : Csid) (rows : List ℕ) (r : Reader) (f : ChunkHeaderFormat) (kept : Stage) → r .message ≡ m → Amid kept → P (basicBy x room size rows r f kept)

@@ -1,13 +1,13 @@
 -- A header that is all there does in one turn what its bytes do one by one: they are a chunk's head, which is read back.
-use Prim.Native.Nat.{ℕ, _+_, _-_, _*_, _%_, _^_, _≤_, _<_}
-use mathlib.Core.Path.{_≡_, refl, sym, ap, _∙_}
+use Prim.Native.Nat.{ℕ, _+_, _*_, _%_, _^_, _≤_, _<_}
+use mathlib.Core.Path.{_≡_, refl, ap, _∙_}
 use mathlib.Core.Logic.{_≢_}
 use mathlib.Core.Bool.{Bool, true, false, cond, not}
 use mathlib.Core.List.{List, [], _++_, append-assoc}
 use native.Mathlib.Omega.{arith}
 use lib.Dec.{eqb, ltb}
 use lib.ListN.{length, take, drop, getD, length-drop, length-take, take-append-drop}
-use lib.Seq.{drop-cons, drop-drop, take-all}
+use lib.Seq.{drop-cons, drop-drop}
 use borrow.Author.Tests.{lt-ltb}
 use Rattle.fields.specs.Endian.{Bytes, bigEndian, gather, littleEndian, number, swapped}
 use Rattle.fields.proofs.Endian.{number-lt}
@@ -18,21 +18,20 @@ use Rattle.chunk_header.specs.Layout.{Chunk, absent, format as type-number, hea
 use Rattle.chunk_header.specs.Table.{fieldLength, headerLength, typeOf}
 use Rattle.chunk_header.proofs.Table.{type-of-byte}
 use Rattle.decoding.specs.Decoder.{Decoder}
-use Rattle.byte_machine.specs.Reader.{Stage, Csid, CsidSecond, CsidThird, InitialTimestamp, MessageLength, MessageTypeId, MessageStreamId, ExtendedTimestamp, MessagePayload, inPayload, atStart}
+use Rattle.byte_machine.specs.Reader.{Csid}
 use Rattle.chunk_meaning.specs.Stored.{Row}
 use Rattle.decoding.specs.Call.{run}
 use Rattle.decoding.specs.Chunk.{HeadFits, basicRefused, carried, formatFor, got, header, headerRefused, row}
 use Rattle.decoding.specs.Head.{Known, headerIn, refusalOf, settledBy}
-use Rattle.byte_machine.specs.Step.{stepped}
 use Rattle.byte_machine.specs.Header.{opens}
 use Rattle.chunk_meaning.specs.Meaning.{basicRefusal, firstRefusal, laterRefusal}
 use Rattle.chunk_header.specs.Limits.{maxField}
-use Rattle.byte_machine.specs.Rows.{find, free, rowAt}
+use Rattle.byte_machine.specs.Rows.{find, free, rowAt, rowCount}
 use Rattle.fields.proofs.Swapped.{little-take, swapped-small}
 use Rattle.decoding.proofs.ReadsBack.{basicOf, claiming, headOf, opened, settled}
 use Rattle.byte_machine.proofs.RowLaws.{find-tells}
-use Rattle.decoding.proofs.Runs.{run-header, then}
-use Rattle.fields.proofs.Tests.{clash, never}
+use Rattle.decoding.proofs.Runs.{then}
+use Rattle.fields.proofs.Tests.{clash}
 
 -- one byte as a number
 pub one-number : (bs : List ℕ) (i : ℕ) → i < length bs → number (take 1 (drop i bs)) ≡ getD bs i 0
@@ -117,8 +116,8 @@ module _ (d : Decoder) (bs : List ℕ) (f : ChunkHeaderFormat) (place : ℕ) (w 
   abbrev begun : Chunk
   begun = record { form = one; id = id; header = headerIn f bs; extended = absent; payload = [] }
 
-  found : ltb (find (d .rows) id) 64 ≡ true
-  found = lt-ltb (find (d .rows) id) 64 (rw (w .place-is) at (w .found))
+  found : ltb (find (d .rows) id) rowCount ≡ true
+  found = lt-ltb (find (d .rows) id) rowCount (rw (w .place-is) at (w .found))
 
   its-row : row d begun ≡ r
   its-row = rw (found, row-is, w .place-is)
@@ -137,7 +136,7 @@ module _ (d : Decoder) (bs : List ℕ) (f : ChunkHeaderFormat) (place : ℕ) (w 
   its-bytes = drop-cons bs 0 0 (omega (arith, w .long)) ∙ (rw (type-in f bs, first-byte, head-rest bs (w .bytes) f (w .long)))
 
   not-basic : basicRefused d begun ≡ 0
-  not-basic = rw (format-in f bs, found, ← with-row f (ltb (free (d .rows)) 64) (not (eqb (d .reader .message .id) 0)) (eqb (d .reader .message .id) id), ← its-id) basic
+  not-basic = rw (format-in f bs, found, ← with-row f (ltb (free (d .rows)) rowCount) (not (eqb (d .reader .message .id) 0)) (eqb (d .reader .message .id) id), ← its-id) basic
 
   not-head : headerRefused d begun ≡ 0
   not-head = rw (format-in f bs, its-header, its-row) (by-message (eqb (d .reader .message .id) 0) refl)

@@ -1,5 +1,5 @@
 -- A byte keeps the one bound that numbers need: the second byte of a basic header of three is a byte.
-use Prim.Native.Nat.{ℕ, _-_, _%_, _<_}
+use Prim.Native.Nat.{ℕ, _-_, _<_}
 use mathlib.Core.Path.{_≡_, refl}
 use mathlib.Core.Bool.{Bool, true, false, cond, not}
 use mathlib.Core.List.{List, [], _∷_}
@@ -19,12 +19,12 @@ use Rattle.fields.specs.Endian.{swapped}
 use Rattle.chunk_header.specs.Limits.{maxField}
 use Rattle.byte_machine.specs.Reader.{Reader, Stage, Csid, CsidSecond, CsidThird, InitialTimestamp, MessageLength, MessageTypeId, MessageStreamId, ExtendedTimestamp, MessagePayload, Stepped, at, go, headed, reading, refuse}
 use Rattle.byte_machine.specs.Header.{extendedNext, lacks, opens, stageOf, whole}
-use Rattle.byte_machine.specs.Rows.{find, free, rowAt}
+use Rattle.byte_machine.specs.Rows.{find, free, rowAt, rowCount}
 use Rattle.byte_machine.specs.Step.{basicBy, claims, extendedField, gathered, lengthField, named, stepped, streamField, timestampField, typeField}
 use Rattle.byte_machine.proofs.Passing.{at-length, at-stream, at-timestamp, at-type, either}
 use Rattle.decoding.specs.Call.{after, isRefusal}
 use Rattle.header_in_place.specs.Byte.{Left, stepIn}
-use Rattle.held.specs.Numbers.{again, decode, stageFrom}
+use Rattle.held.specs.Numbers.{decode}
 use Rattle.held.proofs.Again.{decode-encode, from-small, third}
 
 record Small (s : Stepped) : Type 0 where
@@ -66,10 +66,10 @@ module _ (room size : ℕ) where
     unfolding named
     named-small rows format id =
         let place = find rows id in
-        let k = basicRefusal format (ltb place 64) (ltb (free rows) 64) (not (eqb (r .message .id) 0)) (eqb (r .message .id) id) in
+        let k = basicRefusal format (ltb place rowCount) (ltb (free rows) rowCount) (not (eqb (r .message .id) 0)) (eqb (r .message .id) id) in
         let there = reading r format place (rowAt rows place) (rowAt rows place) in
         either Small (eqb k 0)
-        (either Small (ltb place 64) (at-timestamp Small room size there (λ field e. stops-small there field (lacks there field)) (extended-small there h)) (none {s = claims r format id (free rows)} refl))
+        (either Small (ltb place rowCount) (at-timestamp Small room size there (λ field e. stops-small there field (lacks there field)) (extended-small there h)) (none {s = claims r format id (free rows)} refl))
         (small {s = refuse r k} h)
 
     basic-small : (read : Read) (rows : List ℕ) (format : ChunkHeaderFormat) (kept : Stage) → third kept < 256 → Small (basicBy read room size rows r format kept)
