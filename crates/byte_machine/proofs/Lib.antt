@@ -3,4 +3,3 @@ pub mod Naming
 pub mod Passing
 pub mod Putting
 pub mod RowLaws
-pub mod Table

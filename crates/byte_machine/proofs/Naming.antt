@@ -10,21 +10,21 @@ use Rattle.chunk_header.specs.declared.ChunkHeaderFormat.{ChunkHeaderFormat}
 use Rattle.byte_machine.specs.Reader.{Reader, refuse}
 use Rattle.byte_machine.specs.Step.{claims, known, named}
 use Rattle.chunk_meaning.specs.Meaning.{basicRefusal}
-use Rattle.byte_machine.specs.Rows.{find, free, rowAt}
+use Rattle.byte_machine.specs.Rows.{find, free, rowAt, rowCount}
 use Rattle.byte_machine.specs.Setting.{Setting}
 use Rattle.byte_machine.specs.Look.{look}
 
 module _ (setting : Setting) (rows : List ℕ) (r : Reader) (format : ChunkHeaderFormat) (id place unused k : ℕ)
     (p : place ≡ find rows id) (u : unused ≡ free rows)
-    (e : k ≡ basicRefusal format (ltb place 64) (ltb unused 64) (not (eqb (r .message .id) 0)) (eqb (r .message .id) id)) where
+    (e : k ≡ basicRefusal format (ltb place rowCount) (ltb unused rowCount) (not (eqb (r .message .id) 0)) (eqb (r .message .id) id)) where
   pub named-refused : k ≢ 0 → refuse r k ≡ named setting (look rows id) r format id
   unfolding named
   named-refused h = rw (← p, ← u, ← e, ne-eqb k 0 h)
 
-  pub named-known : k ≡ 0 → place < 64 → known setting r format (rowAt rows place) place ≡ named setting (look rows id) r format id
+  pub named-known : k ≡ 0 → place < rowCount → known setting r format (rowAt rows place) place ≡ named setting (look rows id) r format id
   unfolding named
-  named-known h less = rw (← p, ← u, ← e, eq-eqb k 0 h, lt-ltb place 64 less)
+  named-known h less = rw (← p, ← u, ← e, eq-eqb k 0 h, lt-ltb place rowCount less)
 
-  pub named-claims : k ≡ 0 → 64 ≤ place → claims r format id unused ≡ named setting (look rows id) r format id
+  pub named-claims : k ≡ 0 → rowCount ≤ place → claims r format id unused ≡ named setting (look rows id) r format id
   unfolding named
-  named-claims h all = rw (← p, ← u, ← e, eq-eqb k 0 h, le-ltb place 64 all)
+  named-claims h all = rw (← p, ← u, ← e, eq-eqb k 0 h, le-ltb place rowCount all)

@@ -1,5 +1,5 @@
 -- What putting a stream's row does to a table: that stream has the row, every other one what it had, and the ids stand in the order in which they claimed.
-use Prim.Native.Nat.{ℕ, zero, suc, _*_, _<_, _≤_}
+use Prim.Native.Nat.{ℕ, zero, suc, _<_, _≤_}
 use mathlib.Core.Bool.{Bool, true, false, cond}
 use mathlib.Core.List.{List, [], _∷_, _++_}
 use mathlib.Core.Logic.{_≢_, _⊎_, inl, inr}
@@ -12,18 +12,18 @@ use borrow.Author.Tests.{eqb-false, eqb-true, lt-ltb, ltb-true, ltb-false}
 use Rattle.fields.specs.Cases.{among}
 use Rattle.fields.proofs.Tests.{Decides, equal, in-words, less, never, one-of, same-test}
 use Rattle.chunk_meaning.specs.Stored.{Row, claimed}
-use Rattle.byte_machine.specs.Rows.{find, free, ownRow, putOwn, putRow}
-use Rattle.byte_machine.proofs.RowLaws.{Distinct, alone-none, alone-there, distinct-put, find-is, find-other, find-put, find-tells, found, id-other, id-put, length-putRow, row-other, row-put}
+use Rattle.byte_machine.specs.Rows.{emptyTable, find, free, idAt, ownRow, putOwn, putRow, rowCount, tableLength}
+use Rattle.byte_machine.proofs.RowLaws.{Distinct, Owns, find-here, find-other, find-tells, found, found-owns, free-is, free-tells, id-empty, id-other, id-put, length-putRow, new-distinct, own-distinct, row-other, row-put}
 
 -- an id that neither the row put nor the one it replaces has
-own-other : (rows : List ℕ) (p : ℕ) (row : Row) (j : ℕ) → length rows ≡ 384 → p < 64 → getD rows (6 * p) 0 ≢ j → row .id ≢ j
+own-other : (rows : List ℕ) (p : ℕ) (row : Row) (j : ℕ) → length rows ≡ tableLength → p < rowCount → idAt rows p ≢ j → row .id ≢ j
     → ownRow (putRow rows p row) j ≡ ownRow rows j
-own-other rows p row j l h n m = by-row (ltb (find rows j) 64) refl
+own-other rows p row j l h n m = by-row (ltb (find rows j) rowCount) refl
   where
     f : find (putRow rows p row) j ≡ find rows j
-    f = find-other rows p row j l h n m
+    f = find-other rows p row l h j n m
 
-    by-row : (t : Bool) → ltb (find rows j) 64 ≡ t → ownRow (putRow rows p row) j ≡ ownRow rows j
+    by-row : (t : Bool) → ltb (find rows j) rowCount ≡ t → ownRow (putRow rows p row) j ≡ ownRow rows j
     by-row true e =
         let q : p ≢ find rows j = λ z. n (rw z (find-tells rows j (ltb-true _ _ e))) in
         rw (f, e) (ap some (row-other rows p (find rows j) row q))
@@ -31,9 +31,9 @@ own-other rows p row j l h n m = by-row (ltb (find rows j) 64) refl
 
 -- the table holds these ids in this order, and is free after them
 pub record Lists (rows ids : List ℕ) : Type 0 where
-  pub each : (i : ℕ) → i < 64 → getD rows (6 * i) 0 ≡ getD ids i 0
+  pub each : (i : ℕ) → i < rowCount → idAt rows i ≡ getD ids i 0
   pub used : (i : ℕ) → i < length ids → getD ids i 0 ≢ 0
-  pub most : length ids ≤ 64
+  pub most : length ids ≤ rowCount
 
 beyond : (ids : List ℕ) (i : ℕ) → length ids ≤ i → getD ids i 0 ≡ 0
 beyond [] i h = refl
@@ -51,16 +51,20 @@ not-last (x ∷ ids) id zero n = refl
 not-last (x ∷ ids) id (suc i) n = not-last ids id i (λ e. n (ap suc e))
 
 -- the first free row is the one after them
-pub free-after : {rows ids : List ℕ} → Lists rows ids → length ids < 64 → free rows ≡ length ids
+pub free-after : {rows ids : List ℕ} → Lists rows ids → length ids < rowCount → free rows ≡ length ids
 free-after {rows} {ids} l h =
-    find-is rows 0 (length ids) h (l .each (length ids) h ∙ beyond ids (length ids) (omega arith)) (λ j k e. l .used j k (sym (l .each j (omega arith)) ∙ e))
+    free-is rows (length ids) h (l .each (length ids) h ∙ beyond ids (length ids) (omega arith)) (λ j k e. l .used j k (sym (l .each j (omega arith)) ∙ e))
 
-pub free-none : {rows ids : List ℕ} → Lists rows ids → free rows < 64 → length ids < 64
+pub free-none : {rows ids : List ℕ} → Lists rows ids → free rows < rowCount → length ids < rowCount
 free-none {rows} {ids} l h = by-length (ltb (free rows) (length ids)) refl
   where
-    by-length : (t : Bool) → ltb (free rows) (length ids) ≡ t → length ids < 64
-    by-length true e = absurd (l .used (free rows) (ltb-true _ _ e) (sym (l .each (free rows) h) ∙ find-tells rows 0 h))
+    by-length : (t : Bool) → ltb (free rows) (length ids) ≡ t → length ids < rowCount
+    by-length true e = absurd (l .used (free rows) (ltb-true _ _ e) (sym (l .each (free rows) h) ∙ free-tells rows h))
     by-length false e = let m = ltb-false (free rows) (length ids) e in omega arith
+
+-- the empty table holds none
+pub lists-empty : Lists emptyTable []
+lists-empty = record { each = id-empty; used = λ i k. absurd (omega arith); most = omega arith }
 
 -- a row is found where its id is one of them
 abbrev Holds : (ids : List ℕ) → (id : ℕ) → Type 0
@@ -81,10 +85,10 @@ among-holds (x ∷ ids) id = in-words (to, from) (one-of (equal id x) (among-hol
         at zero k e = inl (sym e)
         at (suc i) k e = inr (i, (omega (arith, k), e))
 
-pub found-among : {rows ids : List ℕ} (id : ℕ) → Lists rows ids → id ≢ 0 → ltb (find rows id) 64 ≡ among id ids
-found-among {rows} {ids} id l n = same-test (in-words (to, from) (less (find rows id) 64)) (among-holds ids id)
+pub found-among : {rows ids : List ℕ} (id : ℕ) → Lists rows ids → id ≢ 0 → ltb (find rows id) rowCount ≡ among id ids
+found-among {rows} {ids} id l n = same-test (in-words (to, from) (less (find rows id) rowCount)) (among-holds ids id)
   where
-    to : find rows id < 64 → Holds ids id
+    to : find rows id < rowCount → Holds ids id
     to h =
         let e : getD ids (find rows id) 0 ≡ id = sym (l .each (find rows id) h) ∙ find-tells rows id h in
         (find rows id, (by-length (ltb (find rows id) (length ids)) refl e, e))
@@ -93,8 +97,8 @@ found-among {rows} {ids} id l n = same-test (in-words (to, from) (less (find row
         by-length true q e = ltb-true _ _ q
         by-length false q e = absurd (n (sym e ∙ beyond ids (find rows id) (ltb-false _ _ q)))
 
-    from : Holds ids id → find rows id < 64
-    from h = let k : h .0 < 64 = omega (arith, h .1 .0, l .most) in found rows id (h .0) k (l .each (h .0) k ∙ h .1 .1)
+    from : Holds ids id → find rows id < rowCount
+    from h = let k : h .0 < rowCount = omega (arith, h .1 .0, l .most) in found rows id (h .0) k (l .each (h .0) k ∙ h .1 .1)
 
 -- a table to which a stream's row was put
 pub record Puts (rows : List ℕ) (id : ℕ) (row : Row) (rows′ : List ℕ) : Type 0 where
@@ -103,16 +107,19 @@ pub record Puts (rows : List ℕ) (id : ℕ) (row : Row) (rows′ : List ℕ) : 
   pub lists : {ids : List ℕ} → Lists rows ids → Lists rows′ (cond (among id ids) ids (ids ++ (id ∷ [])))
 
 -- over its own
-module _ (rows : List ℕ) (row : Row) (l : length rows ≡ 384) (d : Distinct rows) (n : row .id ≢ 0) (h : find rows (row .id) < 64) where
+module _ (rows : List ℕ) (row : Row) (l : length rows ≡ tableLength) (d : Distinct rows) (n : row .id ≢ 0) (h : find rows (row .id) < rowCount) where
   abbrev place : ℕ
   place = find rows (row .id)
 
-  there : getD rows (6 * place) 0 ≡ row .id
+  there : idAt rows place ≡ row .id
   there = find-tells rows (row .id) h
+
+  owns : Owns rows place (row .id)
+  owns = found-owns rows (row .id) n h
 
   known-own : row .«message_type_id» < 256 → ownRow (putRow rows place row) (row .id) ≡ some row
   known-own t =
-      rw (find-put rows place row l h (alone-there rows (row .id) place d h n there), lt-ltb place 64 h) (ap some (row-put rows place row l h t))
+      rw (find-here rows place row l h (own-distinct rows place row l d owns) n, lt-ltb place rowCount h) (ap some (row-put rows place row l h t))
 
   known-other : (j : ℕ) → j ≢ row .id → ownRow (putRow rows place row) j ≡ ownRow rows j
   known-other j m = own-other rows place row j l h (λ e. m (sym e ∙ there)) (λ e. m (sym e))
@@ -120,20 +127,23 @@ module _ (rows : List ℕ) (row : Row) (l : length rows ≡ 384) (d : Distinct r
   known-lists : {ids : List ℕ} → Lists rows ids → Lists (putRow rows place row) ids
   known-lists {ids} k = record { each = λ i less. by-place i less (eqb place i) refl; used = k .used; most = k .most }
     where
-      by-place : (i : ℕ) → i < 64 → (t : Bool) → eqb place i ≡ t → getD (putRow rows place row) (6 * i) 0 ≡ getD ids i 0
+      by-place : (i : ℕ) → i < rowCount → (t : Bool) → eqb place i ≡ t → idAt (putRow rows place row) i ≡ getD ids i 0
       by-place i less true e = rw (← eqb-true place i e) (id-put rows place row l h ∙ sym there ∙ k .each place h)
       by-place i less false e = id-other rows place i row (eqb-false place i e) ∙ k .each i less
 
 -- over a free one
-module _ (rows : List ℕ) (id : ℕ) (l : length rows ≡ 384) (n : id ≢ 0) (none-yet : 64 ≤ find rows id) (some-free : free rows < 64) where
+module _ (rows : List ℕ) (id : ℕ) (l : length rows ≡ tableLength) (d : Distinct rows) (n : id ≢ 0) (none-yet : rowCount ≤ find rows id) (some-free : free rows < rowCount) where
   abbrev claims : List ℕ
   claims = putRow rows (free rows) (claimed id)
 
+  claim-distinct : Distinct claims
+  claim-distinct = new-distinct rows id l n none-yet some-free d
+
   claim-found : find claims id ≡ free rows
-  claim-found = find-put rows (free rows) (claimed id) l some-free (alone-none rows id (free rows) none-yet)
+  claim-found = find-here rows (free rows) (claimed id) l some-free claim-distinct n
 
   claim-other : (j : ℕ) → j ≢ 0 → j ≢ id → ownRow claims j ≡ ownRow rows j
-  claim-other j z m = own-other rows (free rows) (claimed id) j l some-free (λ q. z (sym q ∙ find-tells rows 0 some-free)) (λ q. m (sym q))
+  claim-other j z m = own-other rows (free rows) (claimed id) j l some-free (λ q. z (sym q ∙ free-tells rows some-free)) (λ q. m (sym q))
 
   claim-lists : {ids : List ℕ} → Lists rows ids → Lists claims (ids ++ (id ∷ []))
   claim-lists {ids} k = record { each = each; used = used; most = rw (length-append ids (id ∷ [])) (omega (arith, free-none k some-free)) }
@@ -141,10 +151,10 @@ module _ (rows : List ℕ) (id : ℕ) (l : length rows ≡ 384) (n : id ≢ 0) (
       last : free rows ≡ length ids
       last = free-after k (free-none k some-free)
 
-      each : (i : ℕ) → i < 64 → getD claims (6 * i) 0 ≡ getD (ids ++ (id ∷ [])) i 0
+      each : (i : ℕ) → i < rowCount → idAt claims i ≡ getD (ids ++ (id ∷ [])) i 0
       each i less = by-place (eqb (length ids) i) refl
         where
-          by-place : (t : Bool) → eqb (length ids) i ≡ t → getD claims (6 * i) 0 ≡ getD (ids ++ (id ∷ [])) i 0
+          by-place : (t : Bool) → eqb (length ids) i ≡ t → idAt claims i ≡ getD (ids ++ (id ∷ [])) i 0
           by-place true e = rw (← eqb-true (length ids) i e, last-one ids id, ← last) (id-put rows (free rows) (claimed id) l some-free)
           by-place false e =
               let m = eqb-false (length ids) i e in
@@ -160,29 +170,29 @@ module _ (rows : List ℕ) (id : ℕ) (l : length rows ≡ 384) (n : id ≢ 0) (
               rw (not-last ids id i m) (k .used i (omega (arith, m, less, length-append ids (id ∷ []))))
 
 -- over its own, or over the first free one
-puts-row : (rows : List ℕ) (row : Row) → length rows ≡ 384 → Distinct rows → row .id ≢ 0 → row .«message_type_id» < 256 → (64 ≤ find rows (row .id) → free rows < 64)
+puts-row : (rows : List ℕ) (row : Row) → length rows ≡ tableLength → Distinct rows → row .id ≢ 0 → row .«message_type_id» < 256 → (rowCount ≤ find rows (row .id) → free rows < rowCount)
     → Puts rows (row .id) row (putOwn rows (row .id) row)
-puts-row rows row l d n t spare = by-row (ltb (find rows (row .id)) 64) refl
+puts-row rows row l d n t spare = by-row (ltb (find rows (row .id)) rowCount) refl
   where
-    by-row : (u : Bool) → ltb (find rows (row .id)) 64 ≡ u → Puts rows (row .id) row (putOwn rows (row .id) row)
+    by-row : (u : Bool) → ltb (find rows (row .id)) rowCount ≡ u → Puts rows (row .id) row (putOwn rows (row .id) row)
     by-row true e =
         let h = ltb-true _ _ e in
         rw (e, e) (record { mine = known-own rows row l d n h t; others = λ j z m. known-other rows row l d n h j m; lists = λ k. rw (← found-among (row .id) k n, e) (known-lists rows row l d n h k) })
     by-row false e =
         let none-yet = ltb-false _ _ e in
         let some-free = spare none-yet in
-        let rows′ = claims rows (row .id) l n none-yet some-free in
-        let f = claim-found rows (row .id) l n none-yet some-free in
-        let here : find rows′ (row .id) < 64 = rw f some-free in
+        let rows′ = claims rows (row .id) l d n none-yet some-free in
+        let f = claim-found rows (row .id) l d n none-yet some-free in
+        let here : find rows′ (row .id) < rowCount = rw f some-free in
         let l′ = length-putRow rows (free rows) (claimed (row .id)) ∙ l in
-        let d′ = distinct-put rows (free rows) (claimed (row .id)) l some-free d (alone-none rows (row .id) (free rows) none-yet) in
-        rw (e, lt-ltb (free rows) 64 some-free)
+        let d′ = claim-distinct rows (row .id) l d n none-yet some-free in
+        rw (e, lt-ltb (free rows) rowCount some-free)
         (record {
           mine = rw f at (known-own rows′ row l′ d′ n here t);
-          others = λ j z m. (rw f at (known-other rows′ row l′ d′ n here j m)) ∙ claim-other rows (row .id) l n none-yet some-free j z m;
-          lists = λ k. rw (← found-among (row .id) k n, e) (rw f at (known-lists rows′ row l′ d′ n here (claim-lists rows (row .id) l n none-yet some-free k)));
+          others = λ j z m. (rw f at (known-other rows′ row l′ d′ n here j m)) ∙ claim-other rows (row .id) l d n none-yet some-free j z m;
+          lists = λ k. rw (← found-among (row .id) k n, e) (rw f at (known-lists rows′ row l′ d′ n here (claim-lists rows (row .id) l d n none-yet some-free k)));
         })
 
-pub puts : (rows : List ℕ) (row : Row) (id : ℕ) → row .id ≡ id → length rows ≡ 384 → Distinct rows → id ≢ 0 → row .«message_type_id» < 256 → (64 ≤ find rows id → free rows < 64)
+pub puts : (rows : List ℕ) (row : Row) (id : ℕ) → row .id ≡ id → length rows ≡ tableLength → Distinct rows → id ≢ 0 → row .«message_type_id» < 256 → (rowCount ≤ find rows id → free rows < rowCount)
     → Puts rows id row (putOwn rows id row)
 puts rows row id e l d n t spare = rw (← e) (puts-row rows row l d (rw e n) t (rw e spare))

@@ -44,7 +44,7 @@ pub data Event : Type 0 where
   Message : Event
   Refuse : (number : ℕ) → Event
 
--- what a byte does: the next reader, the event, and the place at which its header becomes a row; 64: none does
+-- what a byte does: the next reader, the event, and the place at which its header becomes a row; `nowhere`: none does
 pub record Stepped : Type 0 where
   pub reader : Reader
   pub event : Event

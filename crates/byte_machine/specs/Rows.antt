@@ -1,30 +1,45 @@
 -- The table of 64 header rows: six numbers a row, and a row of id 0 is free.
-use Prim.Native.Nat.{ℕ, zero, suc, _+_, _*_, _%_}
-use mathlib.Core.Bool.{cond}
+use Prim.Native.Nat.{ℕ, _+_, _*_, _%_}
+use mathlib.Core.Bool.{Bool, cond}
 use mathlib.Core.List.{List, [], _∷_}
 use mathlib.Core.Option.{Option, none, some}
-use lib.Dec.{ltb, eqb}
-use lib.ListN.{getD}
+use lib.Dec.{ltb}
+use lib.ListN.{getD, replicate}
 use lib.Seq.{sets}
+use Rattle.fields.specs.Search.{seekFirst}
 use Rattle.chunk_meaning.specs.Stored.{Row, claimed, row}
 
 abbrev pub rowCount : ℕ
 rowCount = 64
 
--- the numbers of a row, and where they begin
+-- the numbers of a row, those of the table, and where a row's begin
 abbrev pub rowLength : ℕ
 rowLength = 6
+
+abbrev pub tableLength : ℕ
+tableLength = rowCount * rowLength
 
 abbrev pub start : ℕ → ℕ
 start i = rowLength * i
 
+-- a table in which every row is free
+abbrev pub emptyTable : List ℕ
+emptyTable = replicate tableLength 0
+
+abbrev pub idAt : (rows : List ℕ) → (i : ℕ) → ℕ
+idAt rows i = getD rows (start i) 0
+
 abbrev pub rowAt : (rows : List ℕ) → (i : ℕ) → Row
 rowAt rows i =
-    row (getD rows (start i) 0) (getD rows (start i + 1) 0) (getD rows (start i + 2) 0) (getD rows (start i + 3) 0) (getD rows (start i + 4) 0 % 256)
+    row (idAt rows i) (getD rows (start i + 1) 0) (getD rows (start i + 2) 0) (getD rows (start i + 3) 0) (getD rows (start i + 4) 0 % 256)
     (getD rows (start i + 5) 0)
 
 abbrev pub numbers : Row → List ℕ
 numbers r = r .id ∷ r .timestamp .value ∷ r .«timestamp_field» ∷ r .«message_length» ∷ r .«message_type_id» ∷ r .«message_stream_id» ∷ []
+
+-- the number of the type of a row is a byte, so that the row, put over itself, stays
+abbrev pub isOwn : (rows : List ℕ) → (i : ℕ) → Bool
+isOwn rows i = ltb (getD rows (start i + 4) 0) 256
 
 unfoldable pub putRow : (rows : List ℕ) → (i : ℕ) → Row → List ℕ
 putRow rows i r = sets rows (start i) (numbers r)
@@ -33,16 +48,14 @@ putRow rows i r = sets rows (start i) (numbers r)
 abbrev pub putAt : (rows : List ℕ) → (place : ℕ) → Row → List ℕ
 putAt rows place r = cond (ltb place rowCount) (putRow rows place r) rows
 
--- of n rows from i on, the first of that id; 64 where there is none
-unfoldable pub seek : (n i : ℕ) → (rows : List ℕ) → (id : ℕ) → ℕ
-seek zero i rows id = rowCount
-seek (suc n) i rows id = cond (eqb (getD rows (start i) 0) id) i (seek n (suc i) rows id)
-
-abbrev pub find : (rows : List ℕ) → (id : ℕ) → ℕ
-find rows id = seek rowCount 0 rows id
+-- the first row of that id; 64 where there is none
+unfoldable pub find : (rows : List ℕ) → (id : ℕ) → ℕ
+unfolding seekFirst
+find rows id = seekFirst rowCount 0 (idAt rows) id rowCount
 
 -- the first free row; 64 where all are used
-abbrev pub free : List ℕ → ℕ
+unfoldable pub free : List ℕ → ℕ
+unfolding find
 free rows = find rows 0
 
 -- the row at a place; an empty one where the table has none there

@@ -20,7 +20,7 @@ use Rattle.decoding.specs.Call.{Outcome, after, run}
 use Rattle.decoding.specs.Chunk.{ChunkFits, HeadFits, basicRefused, carried, formatFor, got, header, headerRefused, inside, left, row, says}
 use Rattle.chunk_meaning.specs.Meaning.{basicRefusal, firstRefusal, laterRefusal}
 use Rattle.chunk_header.specs.Table.{isEmpty, isFull}
-use Rattle.byte_machine.specs.Rows.{find, free}
+use Rattle.byte_machine.specs.Rows.{find, free, rowCount}
 use Rattle.decoding.proofs.Fields.{Reaches}
 use Rattle.decoding.proofs.Fitting.{lengthOf}
 use Rattle.chunk_meaning.proofs.Unrefused.{first-fits, inside-tells, later-length}
@@ -60,27 +60,27 @@ module _ (d : Decoder) (c : Chunk) (reached : Reached d) (k : basicRefused d c �
   pub own-stream : d .reader .message .id ≢ 0 → (d .reader .message .id ≡ c .id) × (isFull (formatFor (c .header)) ≡ false → isEmpty (formatFor (c .header)) ≡ true)
   own-stream m =
       let e : inside d c ≡ true = rw (ne-eqb (d .reader .message .id) 0 m) in
-      let t = inside-tells (formatFor (c .header)) (ltb (find (d .rows) (c .id)) 64) (ltb (free (d .rows)) 64) (eqb (d .reader .message .id) (c .id)) (rw e at k) in
+      let t = inside-tells (formatFor (c .header)) (ltb (find (d .rows) (c .id)) rowCount) (ltb (free (d .rows)) rowCount) (eqb (d .reader .message .id) (c .id)) (rw e at k) in
       (eqb-true (d .reader .message .id) (c .id) (t .0), t .1)
 
   rowed : Rowed d c
   rowed none = by-message (eqb (d .reader .message .id) 0) refl
     where
       by-message : (t : Bool) → eqb (d .reader .message .id) 0 ≡ t → formatFor (c .header) ≡ Full
-      by-message true e = outside-full (formatFor (c .header)) (ltb (free (d .rows)) 64) (eqb (d .reader .message .id) (c .id)) (rw (none, e) at k)
+      by-message true e = outside-full (formatFor (c .header)) (ltb (free (d .rows)) rowCount) (eqb (d .reader .message .id) (c .id)) (rw (none, e) at k)
       by-message false e =
           let m = eqb-false (d .reader .message .id) 0 e in
           let o = own-stream m .0 in
-          let h : find (d .rows) (c .id) < 64 = rw o at (reached .sound .begun m) in
-          absurd (let z : _≡_ {A = Bool} true false = sym (lt-ltb (find (d .rows) (c .id)) 64 h) ∙ none in let y : _≡_ {A = ℕ} 0 1 = cc in omega arith)
+          let h : find (d .rows) (c .id) < rowCount = rw o at (reached .sound .begun m) in
+          absurd (let z : _≡_ {A = Bool} true false = sym (lt-ltb (find (d .rows) (c .id)) rowCount h) ∙ none in let y : _≡_ {A = ℕ} 0 1 = cc in omega arith)
 
   module _ (j : headerRefused d c ≡ 0) where
     -- inside a message the chunk says its length, which is more than what has come and fits the room
     pub length-inside : d .reader .message .id ≢ 0 → (d .reader .message .got < header d c .«message_length») × (header d c .«message_length» ≤ d .setting .room)
     length-inside m =
         let o = own-stream m in
-        let h : find (d .rows) (c .id) < 64 = rw (o .0) at (reached .sound .begun m) in
-        let l : row d c .«message_length» ≡ lengthOf (d .rows) (d .reader .message .id) = rw (o .0, lt-ltb (find (d .rows) (c .id)) 64 h) in
+        let h : find (d .rows) (c .id) < rowCount = rw (o .0) at (reached .sound .begun m) in
+        let l : row d c .«message_length» ≡ lengthOf (d .rows) (d .reader .message .id) = rw (o .0, lt-ltb (find (d .rows) (c .id)) rowCount h) in
         let same : header d c .«message_length» ≡ row d c .«message_length» = by-format (isFull (formatFor (c .header))) refl in
         (omega (arith, same, l, reached .fits .got m), omega (arith, same, l, reached .fits .room-for m))
       where

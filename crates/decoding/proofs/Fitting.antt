@@ -1,5 +1,5 @@
 -- A message fits from its first chunk on: a first chunk that does not is refused, and a later one says the same length.
-use Prim.Native.Nat.{ℕ, _+_, _-_, _*_, _≤_, _<_, min}
+use Prim.Native.Nat.{ℕ, _+_, _-_, _≤_, _<_, min}
 use mathlib.Core.Path.{_≡_, refl, sym, _∙_}
 use mathlib.Core.Logic.{_≢_}
 use mathlib.Core.Bool.{Bool, true, false, cond, not}
@@ -23,13 +23,13 @@ use Rattle.fields.specs.Endian.{swapped}
 use Rattle.byte_machine.specs.Header.{extendedNext, lacks, lengthNext, opens, stageOf, streamNext, timestampNext, typeNext, whole}
 use Rattle.chunk_meaning.specs.Meaning.{basicRefusal, firstRefusal, laterRefusal}
 use Rattle.chunk_header.specs.Limits.{maxField}
-use Rattle.byte_machine.specs.Rows.{find, free, putRow, rowAt, putAt}
+use Rattle.byte_machine.specs.Rows.{find, free, putAt, putRow, rowAt, rowCount, tableLength}
 use Rattle.decoding.specs.Answer.{refused}
 use Rattle.decoding.specs.Call.{next, stepOf}
 use Rattle.decoding.proofs.Runs.{pays-is}
 use Rattle.chunk_meaning.proofs.Unrefused.{basic-small, first-fits, first-small, inside-tells, later-length, later-small}
 use Rattle.byte_machine.proofs.Passing.{tested, at-stream, at-type, at-length, at-timestamp}
-use Rattle.byte_machine.proofs.RowLaws.{Distinct, find-distinct, id-put, put-number}
+use Rattle.byte_machine.proofs.RowLaws.{Distinct, find-here, length-put, owns-within}
 use Rattle.decoding.proofs.Sound.{Leaves, Sound, csid-used, in-payload-past, past}
 use Rattle.fields.proofs.Tests.{clash, never}
 use Rattle.byte_machine.specs.Setting.{Setting}
@@ -49,7 +49,7 @@ early MessagePayload = false
 
 -- the length that the row of an id says
 abbrev pub lengthOf : List ℕ → ℕ → ℕ
-lengthOf rows id = getD rows (6 * find rows id + 3) 0
+lengthOf rows id = rowAt rows (find rows id) .«message_length»
 
 -- a chunk inside a message of length L: its row says L, and without a full header so does the chunk
 pub record Later (L : ℕ) (r : Reader) : Type 0 where
@@ -94,9 +94,9 @@ fits-same room L L′ r e f = record {
 
 -- what a step leaves: the length is that of the row it puts, if it puts one
 pub record Fitting (room L m : ℕ) (s : Stepped) : Type 0 where
-  pub fits : Fits room (cond (ltb (s .place) 64) (s .reader .chunk .header .«message_length») L) (s .reader)
-  pub same : ltb (s .place) 64 ≡ false → s .reader .message .id ≢ 0 → s .reader .message .id ≡ m
-  pub own : ltb (s .place) 64 ≡ true → s .reader .message .id ≢ 0 → s .reader .message .id ≡ s .reader .chunk .header .id
+  pub fits : Fits room (cond (ltb (s .place) rowCount) (s .reader .chunk .header .«message_length») L) (s .reader)
+  pub same : ltb (s .place) rowCount ≡ false → s .reader .message .id ≢ 0 → s .reader .message .id ≡ m
+  pub own : ltb (s .place) rowCount ≡ true → s .reader .message .id ≢ 0 → s .reader .message .id ≡ s .reader .chunk .header .id
   pub guard : s .event ≢ Refuse 255
 
 -- a reader in such a payload passes the guard
@@ -295,10 +295,10 @@ module _ (setting : Setting) (L : ℕ) (some : 0 < setting .size) where
   timestamp-fits r f later = at-timestamp (Fitting room L (r .message .id)) setting r (stops-fit r f later) (extended-fits r f later)
 
   -- a byte of payload
-  paused-fits : (r : Reader) (got m : ℕ) → r .chunk .place < 64 → got < r .chunk .header .«message_length» → r .chunk .header .«message_length» ≤ room
+  paused-fits : (r : Reader) (got m : ℕ) → r .chunk .place < rowCount → got < r .chunk .header .«message_length» → r .chunk .header .«message_length» ≤ room
       → Fitting room L m (paused r got)
   paused-fits r got m h g k =
-      let e = lt-ltb (r .chunk .place) 64 h in
+      let e = lt-ltb (r .chunk .place) rowCount h in
       let f : Fits room (r .chunk .header .«message_length») (paused r got .reader) = record {
         got = λ n. g;
         room-for = λ n. k;
@@ -309,7 +309,7 @@ module _ (setting : Setting) (L : ℕ) (some : 0 < setting .size) where
       in
       record { fits = rw e f; same = λ z n. clash z e; own = λ z n. refl; guard = chunk-is-not }
 
-  landed-fits : (r : Reader) → r .chunk .place < 64 → inPayload (r .stage) ≡ true → Fits room L r → Fitting room L (r .message .id) (landed r 1)
+  landed-fits : (r : Reader) → r .chunk .place < rowCount → inPayload (r .stage) ≡ true → Fits room L r → Fitting room L (r .message .id) (landed r 1)
   unfolding landed
   landed-fits r h p f =
       let P = Fitting room L (r .message .id) in
@@ -391,20 +391,20 @@ named-fits : (setting : Setting) (rows : List ℕ) (r : Reader) (format : ChunkH
     → Fitting (setting .room) (lengthOf rows (r .message .id)) (r .message .id) (named setting (look rows id) r format id)
 unfolding named
 named-fits setting rows r format id some n p s f =
-    by-cases (ltb (find rows id) 64) refl
-    (basicRefusal format (ltb (find rows id) 64) (ltb (free rows) 64) (not (eqb (r .message .id) 0)) (eqb (r .message .id) id)) refl
+    by-cases (ltb (find rows id) rowCount) refl
+    (basicRefusal format (ltb (find rows id) rowCount) (ltb (free rows) rowCount) (not (eqb (r .message .id) 0)) (eqb (r .message .id) id)) refl
   where
-    tells : (u : Bool) → basicRefusal format u (ltb (free rows) 64) (not (eqb (r .message .id) 0)) (eqb (r .message .id) id) ≡ 0 → r .message .id ≢ 0
+    tells : (u : Bool) → basicRefusal format u (ltb (free rows) rowCount) (not (eqb (r .message .id) 0)) (eqb (r .message .id) id) ≡ 0 → r .message .id ≢ 0
         → (r .message .id ≡ id) × (isFull format ≡ false → isEmpty format ≡ true)
     tells u e m =
-        let k = inside-tells format u (ltb (free rows) 64) (eqb (r .message .id) id) (rw (ne-eqb (r .message .id) 0 m) at e) in
+        let k = inside-tells format u (ltb (free rows) rowCount) (eqb (r .message .id) id) (rw (ne-eqb (r .message .id) 0 m) at e) in
         (eqb-true _ _ (k .0), k .1)
 
-    small : (u : Bool) {k : ℕ} → basicRefusal format u (ltb (free rows) 64) (not (eqb (r .message .id) 0)) (eqb (r .message .id) id) ≡ k → k ≤ 14
-    small u e = rw e at (basic-small format u (ltb (free rows) 64) (not (eqb (r .message .id) 0)) (eqb (r .message .id) id))
+    small : (u : Bool) {k : ℕ} → basicRefusal format u (ltb (free rows) rowCount) (not (eqb (r .message .id) 0)) (eqb (r .message .id) id) ≡ k → k ≤ 14
+    small u e = rw e at (basic-small format u (ltb (free rows) rowCount) (not (eqb (r .message .id) 0)) (eqb (r .message .id) id))
 
-    by-cases : (u : Bool) → ltb (find rows id) 64 ≡ u → (k : ℕ)
-        → basicRefusal format u (ltb (free rows) 64) (not (eqb (r .message .id) 0)) (eqb (r .message .id) id) ≡ k
+    by-cases : (u : Bool) → ltb (find rows id) rowCount ≡ u → (k : ℕ)
+        → basicRefusal format u (ltb (free rows) rowCount) (not (eqb (r .message .id) 0)) (eqb (r .message .id) id) ≡ k
         → Fitting (setting .room) (lengthOf rows (r .message .id)) (r .message .id)
         (cond (eqb k 0) (cond u (known setting r format (rowAt rows (find rows id)) (find rows id)) (claims r format id (free rows))) (refuse r k))
     by-cases true g k e =
@@ -414,7 +414,7 @@ named-fits setting rows r format id some n p s f =
         let r′ = reader (r .stage) (current format (find rows id) row row 0) (r .message) in
         let later : r .message .id ≢ 0 → Later (lengthOf rows (r .message .id)) r′ = λ m.
         let t = tells true (e ∙ eqb-true k 0 z) m in
-        let same : getD rows (6 * find rows id + 3) 0 ≡ lengthOf rows (r .message .id) = rw (t .0) in
+        let same : lengthOf rows id ≡ lengthOf rows (r .message .id) = rw (t .0) in
         record { before = same; empty = t .1; short = λ y. same }
         in
         timestamp-fits setting (lengthOf rows (r .message .id)) some r′
@@ -430,11 +430,11 @@ named-fits setting rows r format id some n p s f =
     by-cases false g k e =
         tested (Fitting (setting .room) (lengthOf rows (r .message .id)) (r .message .id)) (eqb k 0)
         (λ z.
-        let none = ltb-false (find rows id) 64 g in
+        let none = ltb-false (find rows id) rowCount g in
         let outside : r .message .id ≢ 0 → ⊥ = λ m.
         let t = tells false (e ∙ eqb-true k 0 z) m in
         let has = s .begun m in
-        let has′ : find rows id < 64 = rw (t .0) at has in
+        let has′ : find rows id < rowCount = rw (t .0) at has in
         omega arith
         in
         record {
@@ -446,23 +446,22 @@ named-fits setting rows r format id some n p s f =
         (λ z. refuse-fits setting (lengthOf rows (r .message .id)) some r k (small false e) f)
 
 -- so the length that a step leaves is the one in the table
-pub fitting-fits : (room : ℕ) (rows : List ℕ) (m : ℕ) (s : Stepped) → length rows ≡ 384 → Leaves rows s → Fitting room (lengthOf rows m) m s
+pub fitting-fits : (room : ℕ) (rows : List ℕ) (m : ℕ) (s : Stepped) → length rows ≡ tableLength → Leaves rows s → Fitting room (lengthOf rows m) m s
     → Fits room (lengthOf (putAt rows (s .place) (s .reader .chunk .header)) (s .reader .message .id)) (s .reader)
-fitting-fits room rows m s l = by-cases (ltb (s .place) 64) refl
+fitting-fits room rows m s l = by-cases (ltb (s .place) rowCount) refl
   where
-    by-cases : (t : Bool) → ltb (s .place) 64 ≡ t → Leaves rows s → Fitting room (lengthOf rows m) m s
+    by-cases : (t : Bool) → ltb (s .place) rowCount ≡ t → Leaves rows s → Fitting room (lengthOf rows m) m s
         → Fits room (lengthOf (putAt rows (s .place) (s .reader .chunk .header)) (s .reader .message .id)) (s .reader)
     by-cases true e k f =
-        let h = ltb-true (s .place) 64 e in
+        let h = ltb-true (s .place) rowCount e in
         let rows′ = putRow rows (s .place) (s .reader .chunk .header) in
         let d : Distinct rows′ = rw e at (k .distinct) in
         let g : Fits room (s .reader .chunk .header .«message_length») (s .reader) = rw e at (f .fits) in
         rw e (fits-same room (s .reader .chunk .header .«message_length») (lengthOf rows′ (s .reader .message .id)) (s .reader)
         (λ n.
         let own = f .own e n in
-        let here = id-put rows (s .place) (s .reader .chunk .header) l h ∙ sym own in
-        let at-place : find rows′ (s .reader .message .id) ≡ s .place = find-distinct rows′ (s .reader .message .id) (s .place) d h n here in
-        rw at-place (sym (put-number rows (s .place) 3 (s .reader .chunk .header) l h (omega arith)))) g)
+        let at-place : find rows′ (s .reader .message .id) ≡ s .place = rw own (find-here rows (s .place) (s .reader .chunk .header) l h d (rw own at n)) in
+        rw at-place (sym (length-put rows (s .place) (s .reader .chunk .header) l h))) g)
     by-cases false e k f =
         let g : Fits room (lengthOf rows m) (s .reader) = rw e at (f .fits) in
         rw e (fits-same room (lengthOf rows m) (lengthOf rows (s .reader .message .id)) (s .reader) (λ n. rw (f .same e n)) g)
@@ -510,6 +509,6 @@ step-fits d b some s f = by-cases (inPayload (d .reader .stage)) (pays (d .setti
         → Fitting (d .setting .room) (lengthOf (d .rows) (d .reader .message .id)) (d .reader .message .id)
         (cond t (cond u (landed (d .reader) 1) (refuse (d .reader) 255)) (stepped (d .reader .stage) (d .setting) (look (d .rows)) (d .reader) b))
     by-cases true true e g =
-        landed-fits (d .setting) _ some (d .reader) (s .owns (in-payload-past (d .reader .stage) e) .inside) e f
+        landed-fits (d .setting) _ some (d .reader) (owns-within (s .owns (in-payload-past (d .reader .stage) e))) e f
     by-cases true false e g = clash g (paying-pays (d .setting .room) _ (d .reader) (f .paying e))
     by-cases false u e g = stepped-fits (d .reader .stage) (d .setting) (d .rows) (d .reader) b refl e some s f

@@ -1,16 +1,15 @@
 -- A further chunk of type 3, whole in the input, is read back: it leaves the decoder as it was but for what the message has.
-use Prim.Native.Nat.{ℕ, zero, suc, _*_, _%_, _+_, _-_, _≤_, _<_, min}
+use Prim.Native.Nat.{ℕ, suc, _+_, _-_, _≤_, _<_, min}
 use mathlib.Core.Path.{_≡_, refl, sym, ap, _∙_}
 use mathlib.Core.Logic.{_≢_}
 use mathlib.Core.Bool.{true, false}
-use mathlib.Core.List.{List, [], _∷_, _++_}
-use native.Mathlib.Nat.{add-zero, mod-eq-of-lt}
+use mathlib.Core.List.{List, _∷_, _++_}
 use native.Mathlib.Numerals.{add-one}
 use native.Mathlib.Omega.{arith}
-use lib.Dec.{eqb, leb, ltb}
-use lib.ListN.{length, take, drop, getD, set, length-take, length-drop, take-append-drop}
-use lib.Seq.{sets, drop-cons, drop-drop, set-getD}
-use borrow.Author.Tests.{eq-eqb, leb-false, lt-ltb, ne-eqb}
+use lib.Dec.{eqb, ltb}
+use lib.ListN.{length, take, drop, length-take, length-drop, take-append-drop}
+use lib.Seq.{sets, drop-cons, drop-drop}
+use borrow.Author.Tests.{eq-eqb, lt-ltb, ne-eqb}
 use Rattle.fields.specs.Output.{stored as stored-at}
 use Rattle.fields.proofs.Lists.{stored-fits}
 use Rattle.chunk_header.specs.Layout.{Chunk, absent, chunkBytes, one, type3}
@@ -23,7 +22,7 @@ use Rattle.decoding.specs.Chunk.{ChunkFits, basicRefused, got, header, h
 use Rattle.decoding.specs.Further.{Amid, Next, gone}
 use Rattle.chunk_meaning.specs.Meaning.{basicRefusal, laterRefusal}
 use Rattle.chunk_header.specs.Limits.{maxField}
-use Rattle.byte_machine.specs.Rows.{find, numbers, putRow, rowAt}
+use Rattle.byte_machine.specs.Rows.{find, putRow, rowAt, rowCount}
 use Rattle.decoding.proofs.ReadsBack.{Within, claiming, finished, reads-back}
 use Rattle.byte_machine.proofs.RowLaws.{find-tells}
 use Rattle.fields.proofs.Tests.{clash}
@@ -46,8 +45,8 @@ module _ (d : Decoder) (input : List ℕ) (at place n : ℕ) (r : Row) (a : Amid
   begun : eqb (d .reader .message .id) 0 ≡ false
   begun = ne-eqb (d .reader .message .id) 0 (omega (arith, a .message, a .least))
 
-  found : ltb (find (d .rows) (r .id)) 64 ≡ true
-  found = lt-ltb (find (d .rows) (r .id)) 64 (rw (a .place-is) (a .found))
+  found : ltb (find (d .rows) (r .id)) rowCount ≡ true
+  found = lt-ltb (find (d .rows) (r .id)) rowCount (rw (a .place-is) (a .found))
 
   its-row : row d c ≡ r
   its-row = rw (found, a .place-is) (a .held)
@@ -88,7 +87,7 @@ module _ (d : Decoder) (input : List ℕ) (at place n : ℕ) (r : Row) (a : Amid
 
   after-is : after (claiming d (c .id)) (finished d c) ≡ gone-on
   unfolding after
-  after-is = rw (goes, stores, its-row, found, begun, long, a .place-is, lt-ltb place 64 (a .found))
+  after-is = rw (goes, stores, its-row, found, begun, long, a .place-is, lt-ltb place rowCount (a .found))
 
   event-is : finished d c .event ≡ ChunkEnds
   event-is = rw goes
@@ -138,35 +137,10 @@ amid-gone d place got r a = record {
   fits = a .fits;
 }
 
--- numbers stored over themselves
-sets-same : (vs l : List ℕ) (i : ℕ) → ((k : ℕ) → k < length vs → getD vs k 0 ≡ getD l (i + k) 0) → sets l i vs ≡ l
-sets-same [] l i h = refl
-sets-same (v ∷ vs) l i h =
-    let e : v ≡ getD l i 0 = rw (add-zero i) at (h 0 (omega arith)) in
-    let s : set l i v ≡ l = (rw e) ∙ set-getD l i 0 in
-    (rw s) ∙ sets-same vs l (suc i) (λ k f. h (suc k) (omega arith) ∙ ap (λ (j : ℕ). getD l j 0) (omega arith))
-
--- so a row that is put over itself leaves the table
-pub put-own : (rows : List ℕ) (p : ℕ) → leb 256 (getD rows (6 * p + 4) 0) ≡ false → putRow rows p (rowAt rows p) ≡ rows
-unfolding putRow
-put-own rows p h = sets-same (numbers (rowAt rows p)) rows (6 * p) own
-  where
-    small : getD rows (6 * p + 4) 0 % 256 ≡ getD rows (6 * p + 4) 0
-    small = mod-eq-of-lt (leb-false 256 (getD rows (6 * p + 4) 0) h)
-
-    own : (k : ℕ) → k < 6 → getD (numbers (rowAt rows p)) k 0 ≡ getD rows (6 * p + k) 0
-    own zero f = rw (add-zero (6 * p))
-    own (suc zero) f = refl
-    own (suc (suc zero)) f = refl
-    own (suc (suc (suc zero))) f = refl
-    own (suc (suc (suc (suc zero)))) f = small
-    own (suc (suc (suc (suc (suc zero))))) f = refl
-    own (suc (suc (suc (suc (suc (suc k)))))) f = absurd (omega arith)
-
 -- where such chunks may follow: the row that the search finds is that of the message's own stream
 pub amid-at : (d : Decoder) (place : ℕ) → d .reader .stage ≡ Csid → 2 ≤ d .reader .message .id → d .reader .message .id ≤ 63
     → place ≡ find (d .rows) (d .reader .message .id)
-    → place < 64
+    → place < rowCount
     → rowAt (d .rows) place .«timestamp_field» ≢ maxField
     → rowAt (d .rows) place .«message_length» ≤ d .setting .room
     → Amid d place (rowAt (d .rows) place)

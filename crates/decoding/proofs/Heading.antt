@@ -26,7 +26,7 @@ use Rattle.decoding.specs.Head.{Known, headerIn, refusalOf, settledBy}
 use Rattle.byte_machine.specs.Header.{opens}
 use Rattle.chunk_meaning.specs.Meaning.{basicRefusal, firstRefusal, laterRefusal}
 use Rattle.chunk_header.specs.Limits.{maxField}
-use Rattle.byte_machine.specs.Rows.{find, free, rowAt}
+use Rattle.byte_machine.specs.Rows.{find, free, rowAt, rowCount}
 use Rattle.fields.proofs.Swapped.{little-take, swapped-small}
 use Rattle.decoding.proofs.ReadsBack.{basicOf, claiming, headOf, opened, settled}
 use Rattle.byte_machine.proofs.RowLaws.{find-tells}
@@ -116,8 +116,8 @@ module _ (d : Decoder) (bs : List ℕ) (f : ChunkHeaderFormat) (place : ℕ) (w 
   abbrev begun : Chunk
   begun = record { form = one; id = id; header = headerIn f bs; extended = absent; payload = [] }
 
-  found : ltb (find (d .rows) id) 64 ≡ true
-  found = lt-ltb (find (d .rows) id) 64 (rw (w .place-is) at (w .found))
+  found : ltb (find (d .rows) id) rowCount ≡ true
+  found = lt-ltb (find (d .rows) id) rowCount (rw (w .place-is) at (w .found))
 
   its-row : row d begun ≡ r
   its-row = rw (found, row-is, w .place-is)
@@ -136,7 +136,7 @@ module _ (d : Decoder) (bs : List ℕ) (f : ChunkHeaderFormat) (place : ℕ) (w 
   its-bytes = drop-cons bs 0 0 (omega (arith, w .long)) ∙ (rw (type-in f bs, first-byte, head-rest bs (w .bytes) f (w .long)))
 
   not-basic : basicRefused d begun ≡ 0
-  not-basic = rw (format-in f bs, found, ← with-row f (ltb (free (d .rows)) 64) (not (eqb (d .reader .message .id) 0)) (eqb (d .reader .message .id) id), ← its-id) basic
+  not-basic = rw (format-in f bs, found, ← with-row f (ltb (free (d .rows)) rowCount) (not (eqb (d .reader .message .id) 0)) (eqb (d .reader .message .id) id), ← its-id) basic
 
   not-head : headerRefused d begun ≡ 0
   not-head = rw (format-in f bs, its-header, its-row) (by-message (eqb (d .reader .message .id) 0) refl)

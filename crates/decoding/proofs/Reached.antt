@@ -1,12 +1,12 @@
 -- What holds of every decoder that calls can make, as each of its bytes keeps it: a sound table, and a message that fits, so the guard never answers.
-use Prim.Native.Nat.{ℕ, _+_, _*_, _<_}
+use Prim.Native.Nat.{ℕ, _+_, _<_}
 use mathlib.Core.Path.{_≡_, refl, ap}
 use mathlib.Core.Logic.{_≢_}
 use mathlib.Core.Bool.{Bool, true, false, cond, not, _||_}
 use mathlib.Core.List.{List, [], _∷_}
 use native.Mathlib.Omega.{arith}
 use lib.Dec.{eqb, ltb}
-use lib.ListN.{length, length-replicate, getD-replicate}
+use lib.ListN.{length}
 use borrow.Author.Tests.{eqb-false}
 use Rattle.fields.specs.Cases.{_when_, first}
 use Rattle.decoding.specs.Decoder.{Decoder}
@@ -15,6 +15,7 @@ use Rattle.decoding.specs.Answer.{refused}
 use Rattle.decoding.specs.Calls.{Made, after-call, after-size, by-new}
 use Rattle.decoding.specs.Call.{Outcome, after, closes, end, isRefusal, next, outcome, run, stepOf, writes}
 use Rattle.byte_machine.specs.Rows.{putAt}
+use Rattle.byte_machine.proofs.RowLaws.{distinct-empty, long-empty}
 use Rattle.decoding.specs.Told.{between, fresh, made, maxRoom, outcome as told-outcome, refused as no-size, sized, taken, told}
 use Rattle.chunk_header.specs.Limits.{maxSize}
 use Rattle.decoding.proofs.Sound.{Sound, step-sound}
@@ -107,8 +108,8 @@ told-reached d size s = by-cases (eqb (d .closed) 0) (eqb size 0) (ltb maxSize s
 fresh-reached : (room closed : ℕ) → closed ≢ 255 → Reached (fresh room closed)
 fresh-reached room closed h = record {
   sound = record {
-    long = length-replicate {A = ℕ} 384 0;
-    distinct = λ i j h k n e. absurd (n (getD-replicate {A = ℕ} 384 (6 * i) 0 0 (omega arith)));
+    long = long-empty;
+    distinct = distinct-empty;
     begun = λ n. absurd (n refl);
     owns = λ e. never e;
   };

@@ -21,7 +21,7 @@ use Rattle.byte_machine.specs.Payload.{landed}
 use Rattle.byte_machine.specs.Step.{named}
 use Rattle.byte_machine.specs.Header.{opens, timestampNext, whole}
 use Rattle.chunk_meaning.specs.Meaning.{firstRefusal, laterRefusal}
-use Rattle.byte_machine.specs.Rows.{claimedIn, find, free, placeOf}
+use Rattle.byte_machine.specs.Rows.{claimedIn, find, free, placeOf, rowCount}
 use Rattle.chunk_meaning.proofs.Unrefused.{has-free}
 use Rattle.decoding.proofs.Fields.{Reaches}
 use Rattle.decoding.proofs.Identifying.{basic-read}
@@ -79,7 +79,7 @@ module _ (d : Decoder) (c : Chunk) where
 
   -- a chunk is not of a stream without a row, except for type 0
   abbrev pub Rowed : Type 0
-  Rowed = ltb (find (d .rows) (c .id)) 64 ≡ false → formatFor (c .header) ≡ Full
+  Rowed = ltb (find (d .rows) (c .id)) rowCount ≡ false → formatFor (c .header) ≡ Full
 
 module _ (d : Decoder) (c : Chunk) (payload : List ℕ) where
   -- the reader at the last byte of the basic header, of the header, and in the payload
@@ -89,19 +89,19 @@ module _ (d : Decoder) (c : Chunk) (payload : List ℕ) where
   abbrev read : Stage → Reader
   read st = reader st (current (formatFor (c .header)) (placeOf (d .rows) (c .id)) (row d c) (header d c) 0) (d .reader .message)
 
-  begins : (held : Reader) (st : Stage) (m : ℕ) (rest : List ℕ) → basicRefused d c ≡ 0 → (ltb (find (d .rows) (c .id)) 64 ≡ false → formatFor (c .header) ≡ Full)
+  begins : (held : Reader) (st : Stage) (m : ℕ) (rest : List ℕ) → basicRefused d c ≡ 0 → (ltb (find (d .rows) (c .id)) rowCount ≡ false → formatFor (c .header) ≡ Full)
       → then (holding d held) (named (d .setting) (look (d .rows) (c .id)) (at (d .reader) st) (formatFor (c .header)) (c .id)) payload m rest
       ≡ then (holding (claiming d (c .id)) held) (timestampNext (d .setting) (reading st)) payload m rest
   unfolding named timestampNext fieldLength after
-  begins held st m rest k f = by-row (ltb (find (d .rows) (c .id)) 64) refl
+  begins held st m rest k f = by-row (ltb (find (d .rows) (c .id)) rowCount) refl
     where
-      by-row : (t : Bool) → ltb (find (d .rows) (c .id)) 64 ≡ t
+      by-row : (t : Bool) → ltb (find (d .rows) (c .id)) rowCount ≡ t
           → then (holding d held) (named (d .setting) (look (d .rows) (c .id)) (at (d .reader) st) (formatFor (c .header)) (c .id)) payload m rest
           ≡ then (holding (claiming d (c .id)) held) (timestampNext (d .setting) (reading st)) payload m rest
       by-row true e = rw (k, e)
       by-row false e =
           let q = f e in
-          let u : ltb (free (d .rows)) 64 ≡ true = has-free (inside d c) (eqb (d .reader .message .id) (c .id)) (ltb (free (d .rows)) 64) (rw (e, q) at k) in
+          let u : ltb (free (d .rows)) rowCount ≡ true = has-free (inside d c) (eqb (d .reader .message .id) (c .id)) (ltb (free (d .rows)) rowCount) (rw (e, q) at k) in
           rw (k, e, u, q)
 
   -- the reader whose header is settled

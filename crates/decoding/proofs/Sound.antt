@@ -23,12 +23,12 @@ use Rattle.byte_machine.specs.Header.{stageOf, extendedNext, lacks, lengthNext,
 use Rattle.chunk_meaning.specs.Meaning.{basicRefusal, firstRefusal, laterRefusal}
 use Rattle.chunk_header.specs.Limits.{maxField}
 use Rattle.chunk_meaning.specs.Stored.{claimed}
-use Rattle.byte_machine.specs.Rows.{find, free, putRow, rowAt, putAt}
+use Rattle.byte_machine.specs.Rows.{find, free, putAt, putRow, rowAt, rowCount, tableLength}
 use Rattle.decoding.specs.Call.{stepOf}
 use Rattle.chunk_meaning.proofs.Unrefused.{claims-free}
 use Rattle.fields.proofs.Tests.{clash, never}
 use Rattle.byte_machine.proofs.Passing.{at-stream, at-type, at-length, at-timestamp, either}
-use Rattle.byte_machine.proofs.RowLaws.{Distinct, alone-none, alone-there, distinct-put, find-tells, found, id-put, length-putRow, put-found}
+use Rattle.byte_machine.proofs.RowLaws.{Distinct, Owns, find-tells, found-owns, length-putRow, new-distinct, new-found, new-owns, own-distinct, own-found, own-owns, owns-found}
 use Rattle.byte_machine.specs.Setting.{Setting}
 use Rattle.byte_machine.specs.Look.{look}
 
@@ -44,19 +44,13 @@ past (MessageStreamId before lacks) = true
 past (ExtendedTimestamp before lacks) = true
 past MessagePayload = true
 
--- the row at a place is used, and by this id
-pub record Owns (rows : List ℕ) (place id : ℕ) : Type 0 where
-  pub inside : place < 64
-  pub own : getD rows (6 * place) 0 ≡ id
-  pub used : id ≢ 0
-
 -- an id that is not 0 has a row
 abbrev pub HasRow : List ℕ → ℕ → Type 0
-HasRow rows id = id ≢ 0 → find rows id < 64
+HasRow rows id = id ≢ 0 → find rows id < rowCount
 
--- 64 rows of distinct ids; a message that has begun has a row, and so has the chunk that is read
+-- a table of distinct ids; a message that has begun has a row, and so has the chunk that is read
 pub record Sound (rows : List ℕ) (r : Reader) : Type 0 where
-  pub long : length rows ≡ 384
+  pub long : length rows ≡ tableLength
   pub distinct : Distinct rows
   pub begun : HasRow rows (r .message .id)
   pub owns : past (r .stage) ≡ true → Owns rows (r .chunk .place) (r .chunk .header .id)
@@ -65,35 +59,30 @@ pub record Sound (rows : List ℕ) (r : Reader) : Type 0 where
 pub record Stays (rows : List ℕ) (place id : ℕ) (s : Stepped) : Type 0 where
   pub same-place : s .reader .chunk .place ≡ place
   pub same-id : s .reader .chunk .header .id ≡ id
-  pub puts : s .place < 64 → (s .place ≡ place) × (s .reader .chunk .header .id ≡ id)
+  pub puts : s .place < rowCount → (s .place ≡ place) × (s .reader .chunk .header .id ≡ id)
   pub begun : HasRow rows (s .reader .message .id)
 
 -- such a step leaves the table sound
-stays-sound : (rows : List ℕ) (place id : ℕ) (s : Stepped) → length rows ≡ 384 → Distinct rows → Owns rows place id → Stays rows place id s
+stays-sound : (rows : List ℕ) (place id : ℕ) (s : Stepped) → length rows ≡ tableLength → Distinct rows → Owns rows place id → Stays rows place id s
     → Sound (putAt rows (s .place) (s .reader .chunk .header)) (s .reader)
-stays-sound rows place id s l d o k = by-cases (ltb (s .place) 64) refl
+stays-sound rows place id s l d o k = by-cases (ltb (s .place) rowCount) refl
   where
-    by-cases : (t : Bool) → ltb (s .place) 64 ≡ t → Sound (cond t (putRow rows (s .place) (s .reader .chunk .header)) rows) (s .reader)
+    by-cases : (t : Bool) → ltb (s .place) rowCount ≡ t → Sound (cond t (putRow rows (s .place) (s .reader .chunk .header)) rows) (s .reader)
     by-cases true e =
-        let h = ltb-true (s .place) 64 e in
+        let h = ltb-true (s .place) rowCount e in
         let p = k .puts h .0 in
-        let q = k .puts h .1 in
-        let own : getD rows (6 * s .place) 0 ≡ s .reader .chunk .header .id = (rw p (o .own)) ∙ sym q in
-        let used : s .reader .chunk .header .id ≢ 0 = rw q (o .used) in
-        let there : getD (putRow rows (s .place) (s .reader .chunk .header)) (6 * s .reader .chunk .place) 0 ≡ s .reader .chunk .header .id =
-        rw (k .same-place, ← p, k .same-id, ← q) (id-put rows (s .place) (s .reader .chunk .header) l h)
-        in
+        let own : Owns rows (s .place) (s .reader .chunk .header .id) = rw (p, k .puts h .1) o in
         record {
           long = length-putRow rows (s .place) (s .reader .chunk .header) ∙ l;
-          distinct = distinct-put rows (s .place) (s .reader .chunk .header) l h d (alone-there rows (s .reader .chunk .header .id) (s .place) d h used own);
-          begun = λ n. put-found rows (s .place) (s .reader .chunk .header) (s .reader .message .id) l h (λ f. sym own ∙ f) (k .begun n);
-          owns = λ z. record { inside = rw (k .same-place) (o .inside); own = there; used = rw (k .same-id) (o .used) };
+          distinct = own-distinct rows (s .place) (s .reader .chunk .header) l d own;
+          begun = λ n. own-found rows (s .place) (s .reader .chunk .header) l d own (s .reader .message .id) (k .begun n);
+          owns = λ z. rw (k .same-place ∙ sym p) (own-owns rows (s .place) (s .reader .chunk .header) l d own);
         }
     by-cases false e = record {
       long = l;
       distinct = d;
       begun = k .begun;
-      owns = λ z. record { inside = rw (k .same-place) (o .inside); own = rw (k .same-place, k .same-id) (o .own); used = rw (k .same-id) (o .used) };
+      owns = λ z. rw (k .same-place, k .same-id) o;
     }
 
 -- the steps of a header whose basic header is whole, and of a payload, stay at their chunk's row
@@ -201,7 +190,7 @@ waits-sound rows r r′ p e s = record {
 }
 
 -- an id that has no row gets the first free one
-claims-sound : (rows : List ℕ) (r : Reader) (format : ChunkHeaderFormat) (id : ℕ) → Sound rows r → id ≢ 0 → 64 ≤ find rows id → free rows < 64
+claims-sound : (rows : List ℕ) (r : Reader) (format : ChunkHeaderFormat) (id : ℕ) → Sound rows r → id ≢ 0 → rowCount ≤ find rows id → free rows < rowCount
     → Leaves rows (claims r format id (free rows))
 claims-sound rows r format id s n none h =
     let p = free rows in
@@ -209,12 +198,12 @@ claims-sound rows r format id s n none h =
     let l = s .long in
     let rows′ : Sound (putRow rows p c) (claims r format id p .reader) = record {
       long = length-putRow rows p c ∙ l;
-      distinct = distinct-put rows p c l h (s .distinct) (alone-none rows id p none);
-      begun = λ m. put-found rows p c (r .message .id) l h (λ e. absurd (m (sym e ∙ find-tells rows 0 h))) (s .begun m);
-      owns = λ q. record { inside = h; own = id-put rows p c l h; used = n };
+      distinct = new-distinct rows id l n none h (s .distinct);
+      begun = λ m. new-found rows id l n none h (r .message .id) m (s .begun m);
+      owns = λ q. new-owns rows id l n none h;
     }
     in
-    rw (lt-ltb p 64 h) rows′
+    rw (lt-ltb p rowCount h) rows′
 
 -- the last byte of a basic header
 named-sound : (setting : Setting) (rows : List ℕ) (r : Reader) (format : ChunkHeaderFormat) (id : ℕ) → Sound rows r → past (r .stage) ≡ false → id ≢ 0
@@ -223,15 +212,15 @@ unfolding named
 named-sound setting rows r format id s p n =
     let inside = not (eqb (r .message .id) 0) in
     let own = eqb (r .message .id) id in
-    by-cases (ltb (find rows id) 64) refl (basicRefusal format (ltb (find rows id) 64) (ltb (free rows) 64) inside own) refl
+    by-cases (ltb (find rows id) rowCount) refl (basicRefusal format (ltb (find rows id) rowCount) (ltb (free rows) rowCount) inside own) refl
   where
-    by-cases : (u : Bool) → ltb (find rows id) 64 ≡ u → (k : ℕ)
-        → basicRefusal format u (ltb (free rows) 64) (not (eqb (r .message .id) 0)) (eqb (r .message .id) id) ≡ k
+    by-cases : (u : Bool) → ltb (find rows id) rowCount ≡ u → (k : ℕ)
+        → basicRefusal format u (ltb (free rows) rowCount) (not (eqb (r .message .id) 0)) (eqb (r .message .id) id) ≡ k
         → Leaves rows (cond (eqb k 0) (cond u (known setting r format (rowAt rows (find rows id)) (find rows id)) (claims r format id (free rows))) (refuse r k))
     by-cases true f k e = stop (eqb k 0)
       where
-        at-row : Owns rows (find rows id) (getD rows (6 * find rows id) 0)
-        at-row = let h = ltb-true _ _ f in record { inside = h; own = refl; used = rw (find-tells rows id h) n }
+        at-row : Owns rows (find rows id) (rowAt rows (find rows id) .id)
+        at-row = let h : find rows id < rowCount = ltb-true _ _ f in rw (find-tells rows id h) (found-owns rows id n h)
 
         stop : (t : Bool) → Leaves rows (cond t (known setting r format (rowAt rows (find rows id)) (find rows id)) (refuse r k))
         stop true =
@@ -243,14 +232,14 @@ named-sound setting rows r format id s p n =
       where
         stop : (t : Bool) → eqb k 0 ≡ t → Leaves rows (cond t (claims r format id (free rows)) (refuse r k))
         stop true z =
-            let none = ltb-false (find rows id) 64 f in
+            let none = ltb-false (find rows id) rowCount f in
             let other : not (eqb (r .message .id) 0) ≡ true → eqb (r .message .id) id ≡ true → ⊥ = λ a b.
             let q = eqb-true (r .message .id) id b in
-            let m : find rows (r .message .id) < 64 = s .begun (rw q n) in
-            let o : find rows id < 64 = rw q at m in
+            let m : find rows (r .message .id) < rowCount = s .begun (rw q n) in
+            let o : find rows id < rowCount = rw q at m in
             omega arith
             in
-            let unused = claims-free format (ltb (free rows) 64) (not (eqb (r .message .id) 0)) (eqb (r .message .id) id) other (e ∙ eqb-true k 0 z) in
+            let unused = claims-free format (ltb (free rows) rowCount) (not (eqb (r .message .id) 0)) (eqb (r .message .id) id) other (e ∙ eqb-true k 0 z) in
             claims-sound rows r format id s n none (ltb-true _ _ unused)
         stop false z = waits-sound rows r r p refl s
 
@@ -264,7 +253,7 @@ basic-sound setting rows r bytes kept s p q =
 
 -- the chunk that is read has a row
 owned : (rows : List ℕ) (r : Reader) → Owns rows (r .chunk .place) (r .chunk .header .id) → HasRow rows (r .chunk .header .id)
-owned rows r o n = found rows (r .chunk .header .id) (r .chunk .place) (o .inside) (o .own)
+owned rows r o n = owns-found o
 
 -- a byte of a header past its basic header
 field-sound : (stage : Stage) (setting : Setting) (rows : List ℕ) (r : Reader) (b : ℕ) → past (r .stage) ≡ true → past stage ≡ true → Sound rows r

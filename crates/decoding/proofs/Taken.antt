@@ -15,7 +15,7 @@ use Rattle.chunk_meaning.specs.Stored.{Row}
 use Rattle.chunk_meaning.specs.Meaning.{firstRefusal}
 use Rattle.chunk_meaning.proofs.Unrefused.{claims-free, first-fits}
 use Rattle.byte_machine.specs.Reader.{Event, Message, Csid, unfinished}
-use Rattle.byte_machine.specs.Rows.{find, free, putOwn}
+use Rattle.byte_machine.specs.Rows.{find, free, putOwn, rowCount}
 use Rattle.byte_machine.proofs.Putting.{Puts, puts}
 use Rattle.byte_machine.proofs.RowLaws.{find-tells}
 use Rattle.decoding.specs.Decoder.{Decoder}
@@ -80,16 +80,16 @@ module _ (d : Decoder) (c : Chunk) where
   taking = after (claiming d (c .id)) (finished d c)
 
   row-id : row d c .id ≡ c .id
-  row-id = by-row (ltb (find (d .rows) (c .id)) 64) refl
+  row-id = by-row (ltb (find (d .rows) (c .id)) rowCount) refl
     where
-      by-row : (t : Bool) → ltb (find (d .rows) (c .id)) 64 ≡ t → row d c .id ≡ c .id
+      by-row : (t : Bool) → ltb (find (d .rows) (c .id)) rowCount ≡ t → row d c .id ≡ c .id
       by-row true e = rw e (find-tells (d .rows) (c .id) (ltb-true _ _ e))
       by-row false e = rw e
 
   row-type : row d c .«message_type_id» < 256
-  row-type = by-row (ltb (find (d .rows) (c .id)) 64) refl
+  row-type = by-row (ltb (find (d .rows) (c .id)) rowCount) refl
     where
-      by-row : (t : Bool) → ltb (find (d .rows) (c .id)) 64 ≡ t → row d c .«message_type_id» < 256
+      by-row : (t : Bool) → ltb (find (d .rows) (c .id)) rowCount ≡ t → row d c .«message_type_id» < 256
       by-row true e = rw e (omega arith)
       by-row false e = rw e (omega arith)
 
@@ -112,15 +112,15 @@ module _ {d : Decoder} {c : Chunk} (t : Takes d c) where
   pub its-own : d .reader .message .id ≢ 0 → d .reader .message .id ≡ c .id
   its-own m = own-stream d c (t .reached) (t .basic) m .0
 
-  has-row : d .reader .message .id ≢ 0 → find (d .rows) (c .id) < 64
+  has-row : d .reader .message .id ≢ 0 → find (d .rows) (c .id) < rowCount
   has-row m = rw (its-own m) at (t .reached .sound .begun m)
 
   -- a stream without a row finds a free one
-  spare : 64 ≤ find (d .rows) (c .id) → free (d .rows) < 64
+  spare : rowCount ≤ find (d .rows) (c .id) → free (d .rows) < rowCount
   spare none-yet =
-      let e : ltb (find (d .rows) (c .id)) 64 ≡ false = le-ltb (find (d .rows) (c .id)) 64 none-yet in
-      ltb-true (free (d .rows)) 64
-      (claims-free (formatFor (c .header)) (ltb (free (d .rows)) 64) (inside d c) (eqb (d .reader .message .id) (c .id)) (λ i o. outside i) (rw e at (t .basic)))
+      let e : ltb (find (d .rows) (c .id)) rowCount ≡ false = le-ltb (find (d .rows) (c .id)) rowCount none-yet in
+      ltb-true (free (d .rows)) rowCount
+      (claims-free (formatFor (c .header)) (ltb (free (d .rows)) rowCount) (inside d c) (eqb (d .reader .message .id) (c .id)) (λ i o. outside i) (rw e at (t .basic)))
     where
       outside : inside d c ≡ true → ⊥
       outside i = by-message (eqb (d .reader .message .id) 0) refl i

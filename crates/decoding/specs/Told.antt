@@ -1,16 +1,15 @@
 -- Making a decoder, and telling it a chunk size (document 01, refusals 6, 3, 4 and 8).
-use Prim.Native.Nat.{ℕ, _*_}
+use Prim.Native.Nat.{ℕ}
 use mathlib.Core.Bool.{Bool, not, _&&_, _||_}
 use mathlib.Core.List.{[], _∷_}
 use lib.Dec.{ltb, eqb}
-use lib.ListN.{replicate}
 use Rattle.fields.specs.Cases.{_when_, first}
 use Rattle.chunk_header.specs.declared.ChunkHeaderFormat.the-variants.{Full}
 use Rattle.chunk_header.specs.Limits.{initialSize, maxLength, maxSize}
 use Rattle.decoding.specs.Decoder.{Decoder}
 use Rattle.byte_machine.specs.Reader.{Reader, Csid, atStart, current, nowhere, reader, unfinished}
 use Rattle.byte_machine.specs.Setting.{setting}
-use Rattle.byte_machine.specs.Rows.{rowCount, rowLength}
+use Rattle.byte_machine.specs.Rows.{emptyTable}
 use Rattle.chunk_meaning.specs.Stored.{claimed}
 
 -- each answer's number, as document 01 lists it
@@ -52,7 +51,7 @@ fresh room closed = record {
   setting = setting room initialSize;
   closed = closed;
   reader = reader Csid (current Full nowhere (claimed 0) (claimed 0) 0) (unfinished 0 0);
-  rows = replicate (rowCount * rowLength) 0;
+  rows = emptyTable;
 }
 
 -- a room of 0 or over 16777215 makes a decoder closed with 6

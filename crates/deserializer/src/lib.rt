@@ -7,16 +7,17 @@ ghost use Rattle.one_stroke.specs.Lent.{Lent};
 ghost use Rattle.in_place.specs.Answer.{LentSize, answerOf, sizeOf};
 ghost use Rattle.deserializer.specs.Meant.{meant};
 pub use in_place::Answer;
+use in_place::TABLE_LENGTH;
 pub use in_place::Telling;
 use in_place::get_max_chunk_size;
 use in_place::make;
 use in_place::next_message;
 use in_place::set_max_chunk_size;
 
-// A decoder: the 24 numbers that it holds, and the table of 64 rows of six numbers.
+// A decoder: the 24 numbers that it holds, and the table of rows.
 pub struct ChunkDeserializer {
     held: [u32; 24],
-    rows: [u32; 384],
+    rows: [u32; TABLE_LENGTH],
 }
 
 // What a call answers, and the decoder handed back beside it.
@@ -37,7 +38,7 @@ impl ChunkDeserializer {
         ensures { λ r. ⌜ LentSize (sizeOf (r .telling)) (r .deserializer .held) (r .deserializer .rows) (made room) ⌝ }
     {
         let mut held = [0; 24];
-        let mut rows = [0; 384];
+        let mut rows = [0; TABLE_LENGTH];
         let telling = make(&mut held, &mut rows, room);
         Told {
             deserializer: ChunkDeserializer {

@@ -13,7 +13,7 @@ use Rattle.chunk_header.specs.Basic.{csid}
 use Rattle.chunk_header.specs.Table.{formatOf, typeOf}
 use Rattle.chunk_meaning.specs.Meaning.{basicRefusal}
 use Rattle.byte_machine.specs.Reader.{Reader, Stage, Csid, CsidSecond, CsidThird, InitialTimestamp, MessageLength, MessageTypeId, MessageStreamId, ExtendedTimestamp, MessagePayload, Stepped, refuse}
-use Rattle.byte_machine.specs.Rows.{find, free, rowAt}
+use Rattle.byte_machine.specs.Rows.{find, free, rowAt, rowCount}
 use Rattle.byte_machine.specs.Step.{basicBy, claims, known, named, stepped}
 use Rattle.byte_machine.proofs.Naming.{named-refused, named-known, named-claims}
 use Rattle.held.specs.declared.numbers.Held.{Held}
@@ -32,13 +32,13 @@ module _ (h : Held) (rows : List ℕ) (first id format place k : ℕ) (t : forma
   same-format : formatFrom format ≡ formatOf first
   same-format = ap (λ (n : ℕ). formatFrom n) t ∙ from-again (formatOf first)
 
-  module _ (e : k ≡ basicRefusal (formatFrom format) true true (not (eqb (h .id) 0)) (eqb (h .id) id)) (there : place < 64) where
-    of-row : k ≡ basicRefusal (formatOf first) (ltb place 64) (ltb (free rows) 64) (not (eqb (h .id) 0)) (eqb (h .id) id)
+  module _ (e : k ≡ basicRefusal (formatFrom format) true true (not (eqb (h .id) 0)) (eqb (h .id) id)) (there : place < rowCount) where
+    of-row : k ≡ basicRefusal (formatOf first) (ltb place rowCount) (ltb (free rows) rowCount) (not (eqb (h .id) 0)) (eqb (h .id) id)
     of-row =
         e
         ∙ ap (λ (f : ChunkHeaderFormat). basicRefusal f true true (not (eqb (h .id) 0)) (eqb (h .id) id)) same-format
-        ∙ free-known (formatOf first) (ltb (free rows) 64) (not (eqb (h .id) 0)) (eqb (h .id) id)
-        ∙ ap (λ (b : Bool). basicRefusal (formatOf first) b (ltb (free rows) 64) (not (eqb (h .id) 0)) (eqb (h .id) id)) (sym (lt-ltb place 64 there))
+        ∙ free-known (formatOf first) (ltb (free rows) rowCount) (not (eqb (h .id) 0)) (eqb (h .id) id)
+        ∙ ap (λ (b : Bool). basicRefusal (formatOf first) b (ltb (free rows) rowCount) (not (eqb (h .id) 0)) (eqb (h .id) id)) (sym (lt-ltb place rowCount there))
 
     pub row-refused : k ≢ 0 → doneOf h (refuse (readerFrom h) k) ≡ doneOf h said
     row-refused n = ap (λ (s : Stepped). doneOf h s) (named-refused (settingIn h) rows (readerFrom h) (formatOf first) id place (free rows) k p refl of-row n)
@@ -48,12 +48,12 @@ module _ (h : Held) (rows : List ℕ) (first id format place k : ℕ) (t : forma
         ap (λ (f : ChunkHeaderFormat). doneOf h (known (settingIn h) (readerFrom h) f (rowAt rows place) place)) same-format
         ∙ ap (λ (s : Stepped). doneOf h s) (named-known (settingIn h) rows (readerFrom h) (formatOf first) id place (free rows) k p refl of-row z there)
 
-  module _ (unused : ℕ) (u : unused ≡ free rows) (e : k ≡ basicRefusal (formatFrom format) false (ltb unused 64) (not (eqb (h .id) 0)) (eqb (h .id) id)) (none : 64 ≤ place) where
-    of-none : k ≡ basicRefusal (formatOf first) (ltb place 64) (ltb unused 64) (not (eqb (h .id) 0)) (eqb (h .id) id)
+  module _ (unused : ℕ) (u : unused ≡ free rows) (e : k ≡ basicRefusal (formatFrom format) false (ltb unused rowCount) (not (eqb (h .id) 0)) (eqb (h .id) id)) (none : rowCount ≤ place) where
+    of-none : k ≡ basicRefusal (formatOf first) (ltb place rowCount) (ltb unused rowCount) (not (eqb (h .id) 0)) (eqb (h .id) id)
     of-none =
         e
-        ∙ ap (λ (f : ChunkHeaderFormat). basicRefusal f false (ltb unused 64) (not (eqb (h .id) 0)) (eqb (h .id) id)) same-format
-        ∙ ap (λ (b : Bool). basicRefusal (formatOf first) b (ltb unused 64) (not (eqb (h .id) 0)) (eqb (h .id) id)) (sym (le-ltb place 64 none))
+        ∙ ap (λ (f : ChunkHeaderFormat). basicRefusal f false (ltb unused rowCount) (not (eqb (h .id) 0)) (eqb (h .id) id)) same-format
+        ∙ ap (λ (b : Bool). basicRefusal (formatOf first) b (ltb unused rowCount) (not (eqb (h .id) 0)) (eqb (h .id) id)) (sym (le-ltb place rowCount none))
 
     pub new-refused : k ≢ 0 → doneOf h (refuse (readerFrom h) k) ≡ doneOf h said
     new-refused n = ap (λ (s : Stepped). doneOf h s) (named-refused (settingIn h) rows (readerFrom h) (formatOf first) id place unused k p u of-none n)

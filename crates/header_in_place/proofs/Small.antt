@@ -19,7 +19,7 @@ use Rattle.fields.specs.Endian.{swapped}
 use Rattle.chunk_header.specs.Limits.{maxField}
 use Rattle.byte_machine.specs.Reader.{Reader, Stage, Csid, CsidSecond, CsidThird, InitialTimestamp, MessageLength, MessageTypeId, MessageStreamId, ExtendedTimestamp, MessagePayload, Stepped, at, go, headed, reading, refuse}
 use Rattle.byte_machine.specs.Header.{extendedNext, lacks, opens, stageOf, whole}
-use Rattle.byte_machine.specs.Rows.{find, free, rowAt}
+use Rattle.byte_machine.specs.Rows.{find, free, rowAt, rowCount}
 use Rattle.byte_machine.specs.Step.{basicBy, claims, extendedField, gathered, lengthField, named, stepped, streamField, timestampField, typeField}
 use Rattle.byte_machine.proofs.Passing.{at-length, at-stream, at-timestamp, at-type, either}
 use Rattle.decoding.specs.Call.{after, isRefusal}
@@ -68,10 +68,10 @@ module _ (setting : Setting) where
     unfolding named
     named-small rows format id =
         let place = find rows id in
-        let k = basicRefusal format (ltb place 64) (ltb (free rows) 64) (not (eqb (r .message .id) 0)) (eqb (r .message .id) id) in
+        let k = basicRefusal format (ltb place rowCount) (ltb (free rows) rowCount) (not (eqb (r .message .id) 0)) (eqb (r .message .id) id) in
         let there = reading r format place (rowAt rows place) (rowAt rows place) in
         either Small (eqb k 0)
-        (either Small (ltb place 64) (at-timestamp Small setting there (λ field e. stops-small there field (lacks there field)) (extended-small there h)) (none {s = claims r format id (free rows)} refl))
+        (either Small (ltb place rowCount) (at-timestamp Small setting there (λ field e. stops-small there field (lacks there field)) (extended-small there h)) (none {s = claims r format id (free rows)} refl))
         (small {s = refuse r k} h)
 
     basic-small : (read : Read) (rows : List ℕ) (format : ChunkHeaderFormat) (kept : Stage) → third kept < 256 → Small (basicBy read setting (look rows) r format kept)

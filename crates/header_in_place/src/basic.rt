@@ -16,7 +16,9 @@ use held::Done;
 use held::Held;
 use held::HeldRow;
 use held::ROWS;
+use held::TABLE_LENGTH;
 use held::find;
+use held::first_free;
 use held::goes;
 use held::refused;
 use held::row_in;
@@ -98,7 +100,7 @@ fn claims(h: Held, format: u32, id: u32, place: u32) -> Done
 }
 
 // The last byte of a basic header that says this id.
-fn named(h: Held, rows: &[u32; 384], first: u32, id: u32) -> Done
+fn named(h: Held, rows: &[u32; TABLE_LENGTH], first: u32, id: u32) -> Done
     ensures { λ r. ⌜ r ≡ doneOf h (Machine·named (settingIn h) (look (now (rows .entry)) id) (readerFrom h) (formatOf first) id) ⌝ }
 {
     let format = type_in(first);
@@ -111,7 +113,7 @@ fn named(h: Held, rows: &[u32; 384], first: u32, id: u32) -> Done
         let row = row_in(rows, place);
         return known(h, format, row, place as u32);
     }
-    let unused = find(rows, 0);
+    let unused = first_free(rows);
     let k = basic_refusal(format, false, unused < ROWS, h.id != 0, h.id == id);
     if k != 0 {
         return refused(h, k);
@@ -205,7 +207,7 @@ fn keeps(h: Held, byte: u8) -> Done
 }
 
 // A byte of a basic header: it says an id, or is kept.
-pub fn basic_byte(h: Held, rows: &[u32; 384], byte: u8) -> Done
+pub fn basic_byte(h: Held, rows: &[u32; TABLE_LENGTH], byte: u8) -> Done
     requires { ⌜ (h .format ≤ 3) × (h .stage < 3) ⌝ }
     ensures { λ r. ⌜ r ≡ doneOf h (stepIn (meant h (now (rows .entry))) byte) ⌝ }
 {

@@ -12,6 +12,7 @@ use crate::gather::timestamp_byte;
 use crate::gather::type_byte;
 use held::Done;
 use held::Held;
+use held::TABLE_LENGTH;
 use held::held_in;
 use held::numbers_of;
 use held::put_at;
@@ -19,7 +20,7 @@ use held::refused;
 use held::shut;
 
 // By the stage. A byte of a payload never comes here.
-fn step(h: Held, rows: &[u32; 384], byte: u8) -> Done
+fn step(h: Held, rows: &[u32; TABLE_LENGTH], byte: u8) -> Done
     requires { ⌜ h .format ≤ 3 ⌝ }
     ensures { λ r. ⌜ r ≡ doneOf h (stepIn (meant h (now (rows .entry))) byte) ⌝ }
 {
@@ -46,7 +47,7 @@ fn step(h: Held, rows: &[u32; 384], byte: u8) -> Done
 
 // Takes a byte of a header: 0 where it only goes on, 1 at the end of a chunk, 2 of a message, 3 where it is refused; the
 // decoder is then closed with the refusal's number.
-pub fn take_byte(held: &mut [u32; 24], rows: &mut [u32; 384], byte: u8) -> u32
+pub fn take_byte(held: &mut [u32; 24], rows: &mut [u32; TABLE_LENGTH], byte: u8) -> u32
     ensures { λ r. ⌜ Left r (now (held .exit)) (now (rows .exit)) (decode (now (held .entry)) (now (rows .entry))) (stepIn (decode (now (held .entry)) (now (rows .entry))) byte) ⌝ }
 {
     let h = held_in(held);

@@ -1,7 +1,7 @@
 -- What a byte did, as numbers.
 use Prim.Native.Nat.{ℕ}
 use mathlib.Core.Bool.{cond}
-use Rattle.byte_machine.specs.Reader.{Event, Go, Chunk, Message, Refuse, Stepped}
+use Rattle.byte_machine.specs.Reader.{Event, Go, Chunk, Message, Refuse, Stepped, nowhere}
 use Rattle.decoding.specs.Call.{isRefusal}
 use Rattle.held.specs.declared.numbers.Held.{Held}
 use Rattle.held.specs.declared.numbers.Done.{Done}
@@ -40,5 +40,5 @@ goesTo h stage number lacks = record {
   held = record { room = h .room; size = h .size; closed = h .closed; stage = stage; number = number; lacks = lacks; format = h .format; place = h .place; left = h .left; id = h .id; got = h .got; before = h .before; header = h .header };
   event = 0;
   number = 0;
-  place = 64;
+  place = nowhere;
 }

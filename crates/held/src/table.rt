@@ -1,15 +1,17 @@
 // The table of 64 header rows, lent as numbers: six a row, and a row of id 0 is free.
 ghost use mathlib.Core.Path.{_≡_};
 ghost use Prim.Native.Nat.{_<_};
-ghost use Rattle.byte_machine.specs.Rows.{putAt, putRow, rowAt, rowOrEmpty};
-ghost use Rattle.byte_machine.specs.Rows.{find as Rows·find};
+ghost use Rattle.byte_machine.specs.Rows.{find as Rows·find, free, isOwn, putAt, putRow, rowAt, rowCount, rowOrEmpty};
 ghost use Rattle.held.specs.Numbers.{rowFrom, heldRowOf};
 use crate::numbers::HeldRow;
 
 pub const ROWS: usize = 64;
 
+// How many numbers the table has.
+pub const TABLE_LENGTH: usize = 384;
+
 // The first row of this id, or 64.
-pub fn find(rows: &[u32; 384], id: u32) -> usize
+pub fn find(rows: &[u32; TABLE_LENGTH], id: u32) -> usize
     ensures { λ r. ⌜ r ≡ Rows·find (now (rows .entry)) id ⌝ }
 {
     let mut i = 0;
@@ -22,8 +24,23 @@ pub fn find(rows: &[u32; 384], id: u32) -> usize
     ROWS
 }
 
-pub fn row_in(rows: &[u32; 384], i: usize) -> HeldRow
-    requires { ⌜ i < 64 ⌝ }
+// The first free row, or 64.
+pub fn first_free(rows: &[u32; TABLE_LENGTH]) -> usize
+    ensures { λ r. ⌜ r ≡ free (now (rows .entry)) ⌝ }
+{
+    find(rows, 0)
+}
+
+// Whether the row at a place, put over itself, stays as it is: the number of its type is a byte.
+pub fn is_own(rows: &[u32; TABLE_LENGTH], place: usize) -> bool
+    requires { ⌜ place < rowCount ⌝ }
+    ensures { λ r. ⌜ r ≡ isOwn (now (rows .entry)) place ⌝ }
+{
+    rows[6 * place + 4] < 256
+}
+
+pub fn row_in(rows: &[u32; TABLE_LENGTH], i: usize) -> HeldRow
+    requires { ⌜ i < rowCount ⌝ }
     ensures { λ r. ⌜ r ≡ heldRowOf (rowAt (now (rows .entry)) i) ⌝ }
 {
     let at = 6 * i;
@@ -37,8 +54,8 @@ pub fn row_in(rows: &[u32; 384], i: usize) -> HeldRow
     }
 }
 
-fn put_row(rows: &mut [u32; 384], i: usize, row: HeldRow)
-    requires { ⌜ i < 64 ⌝ }
+fn put_row(rows: &mut [u32; TABLE_LENGTH], i: usize, row: HeldRow)
+    requires { ⌜ i < rowCount ⌝ }
     ensures { λ _. ⌜ now (rows .exit) ≡ putRow (now (rows .entry)) i (rowFrom row) ⌝ }
 {
     let at = 6 * i;
@@ -51,7 +68,7 @@ fn put_row(rows: &mut [u32; 384], i: usize, row: HeldRow)
 }
 
 // The row at a place; an empty one where the table has none there.
-pub fn row_or_empty(rows: &[u32; 384], place: usize) -> HeldRow
+pub fn row_or_empty(rows: &[u32; TABLE_LENGTH], place: usize) -> HeldRow
     ensures { λ r. ⌜ r ≡ heldRowOf (rowOrEmpty (now (rows .entry)) place) ⌝ }
 {
     if place < ROWS {
@@ -68,7 +85,7 @@ pub fn row_or_empty(rows: &[u32; 384], place: usize) -> HeldRow
 }
 
 // The same, where the table has that place.
-pub fn put_at(rows: &mut [u32; 384], place: u32, row: HeldRow)
+pub fn put_at(rows: &mut [u32; TABLE_LENGTH], place: u32, row: HeldRow)
     ensures { λ _. ⌜ now (rows .exit) ≡ putAt (now (rows .entry)) place (rowFrom row) ⌝ }
 {
     if place < 64 {

@@ -11,13 +11,13 @@ use lib.ListN.{drop, getD, length, take}
 use lib.Seq.{sets}
 use borrow.Author.Tests.{eqb-false, eqb-true}
 use Rattle.chunk_meaning.specs.Stored.{Row}
-use Rattle.byte_machine.specs.Rows.{find, putRow, rowAt, rowOrEmpty}
-use Rattle.byte_machine.proofs.RowLaws.{in-table}
+use Rattle.byte_machine.specs.Rows.{find, putRow, rowAt, rowCount, rowOrEmpty}
+use Rattle.byte_machine.proofs.RowLaws.{in-table, put-own}
 use Rattle.decoding.specs.Call.{Outcome, run}
 use Rattle.decoding.specs.Further.{Amid, Next, gone}
 use Rattle.decoding.specs.Decoder.{Decoder}
 use Rattle.decoding.proofs.Cut.{run-shift, shift}
-use Rattle.decoding.proofs.FurtherOn.{amid-at, amid-gone, further-runs, put-own}
+use Rattle.decoding.proofs.FurtherOn.{amid-at, amid-gone, further-runs}
 use Rattle.held.specs.declared.numbers.HeldRow.{HeldRow}
 use Rattle.held.specs.Numbers.{decode, encode, heldRowOf, numbersOf}
 use Rattle.held.proofs.Again.{decode-encode}
@@ -70,7 +70,7 @@ pub follows-none : (held rows input : List ℕ) (at : ℕ) (payload : List ℕ) 
 follows-none held rows input at payload k = record { on = omega arith; within = k; room = refl; kept = λ e. e; runs = refl }
 
 -- some do
-module _ (held rows input : List ℕ) (at place : ℕ) (payload : List ℕ) (row : HeldRow) (p : Paused held) (place-is : place ≡ find rows (getD held 9 0)) (found : place < 64)
+module _ (held rows input : List ℕ) (at place : ℕ) (payload : List ℕ) (row : HeldRow) (p : Paused held) (place-is : place ≡ find rows (getD held 9 0)) (found : place < rowCount)
     (row-is : row ≡ heldRowOf (rowOrEmpty rows place)) (k : Plain rows place row (getD held 0 0)) where
   abbrev d : Decoder
   d = decode held rows
@@ -86,7 +86,7 @@ module _ (held rows input : List ℕ) (at place : ℕ) (payload : List ℕ) (row
       amid-at d place (is-csid (getD held 3 0) (getD held 4 0) (getD held 5 0) (p .stage)) (p .least) (p .most) place-is found (rw its-row at (k .plain)) (rw its-row at (k .fits))
 
   same : putRow rows place r ≡ rows
-  same = put-own rows place (k .own)
+  same = put-own rows place (getD held 9 0) place-is found (k .own)
 
   -- what came before the first of them does not count
   as-gone : Next input at (getD held 9 0) (getD held 10 0) (r .«message_length») (min (getD held 1 0) (r .«message_length» - getD held 10 0))

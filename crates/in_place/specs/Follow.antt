@@ -1,14 +1,13 @@
 -- Further chunks of a message in one run, over numbers: when they may follow, and what a run of them ensures.
-use Prim.Native.Nat.{ℕ, _+_, _-_, _*_, _≤_, min}
-use mathlib.Core.Bool.{Bool, false}
+use Prim.Native.Nat.{ℕ, _-_, _≤_, min}
+use mathlib.Core.Bool.{Bool, false, true}
 use mathlib.Core.List.{List}
 use mathlib.Core.Logic.{_≢_}
 use mathlib.Core.Path.{_≡_}
-use lib.Dec.{leb}
 use lib.ListN.{drop, getD, length}
 use Rattle.chunk_header.specs.Limits.{maxField}
 use Rattle.chunk_meaning.specs.Stored.{Row}
-use Rattle.byte_machine.specs.Rows.{putRow}
+use Rattle.byte_machine.specs.Rows.{isOwn, putRow}
 use Rattle.decoding.specs.Call.{run}
 use Rattle.decoding.specs.Further.{Amid, Next, gone}
 use Rattle.decoding.specs.Decoder.{Decoder}
@@ -28,7 +27,7 @@ Apart b held = b ≡ false → Paused held
 
 -- a row that stays as it is where it is put over itself, without extended time, of a message within the room
 pub record Plain (rows : List ℕ) (place : ℕ) (row : HeldRow) (room : ℕ) : Type 0 where
-  pub own : leb 256 (getD rows (6 * place + 4) 0) ≡ false
+  pub own : isOwn rows place ≡ true
   pub plain : row .field ≢ maxField
   pub fits : row .length ≤ room
 

@@ -7,13 +7,19 @@ use crate::answer::Answer;
 use crate::answer::handed;
 use crate::answer::refused;
 use crate::turning::turns;
+use held::TABLE_LENGTH;
 use held::renew;
 use held::wide;
 use one_stroke::at_once;
 use one_stroke::within;
 
 // A closed decoder, or too short a buffer, or the bytes of the input.
-fn by_turns(held: &mut [u32; 24], rows: &mut [u32; 384], input: &[u8], payload: &mut [u8]) -> Answer
+fn by_turns(
+    held: &mut [u32; 24],
+    rows: &mut [u32; TABLE_LENGTH],
+    input: &[u8],
+    payload: &mut [u8],
+) -> Answer
     ensures { λ r. ⌜ Lent (answerOf r) (now (held .exit)) (now (rows .exit)) (now (payload .exit)) (next (decode (now (held .entry)) (now (rows .entry))) (now (input .entry)) (now (payload .entry))) ⌝ }
 {
     let closed = held[2];
@@ -36,7 +42,7 @@ fn by_turns(held: &mut [u32; 24], rows: &mut [u32; 384], input: &[u8], payload: 
 // `payload`, where the same buffer was lent untouched since the message's first byte.
 pub fn next_message(
     held: &mut [u32; 24],
-    rows: &mut [u32; 384],
+    rows: &mut [u32; TABLE_LENGTH],
     input: &[u8],
     payload: &mut [u8],
 ) -> Answer

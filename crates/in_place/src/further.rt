@@ -3,6 +3,7 @@ ghost use mathlib.Core.Path.{_≡_};
 ghost use Prim.Native.Nat.{_+_, _*_, _≤_, _<_};
 ghost use lib.ListN.{drop, getD, length as ListN·length, take};
 ghost use lib.Seq.{sets};
+ghost use Rattle.byte_machine.specs.Rows.{rowCount};
 ghost use Rattle.decoding.specs.Further.{Stops};
 ghost use Rattle.held.specs.Numbers.{numbersOf};
 ghost use Rattle.in_place.specs.Follow.{Apart, Follows, Goes, Other, goneTo};
@@ -11,7 +12,9 @@ use fields::put_bytes;
 use held::Held;
 use held::HeldRow;
 use held::ROWS;
+use held::TABLE_LENGTH;
 use held::find;
+use held::is_own;
 use held::lacking;
 use held::least;
 use held::numbers_of;
@@ -96,12 +99,12 @@ fn is_apart(held: &[u32; 24]) -> bool
     63 < id
 }
 
-// Whether the number of a row's type is no byte (put there, it is one), or the row has an extended time or does not fit.
-fn is_other(rows: &[u32; 384], place: usize, row: HeldRow, room: u32) -> bool
-    requires { ⌜ place < 64 ⌝ }
+// Whether a row does not stay where it is put over itself, has an extended time or does not fit.
+fn is_other(rows: &[u32; TABLE_LENGTH], place: usize, row: HeldRow, room: u32) -> bool
+    requires { ⌜ place < rowCount ⌝ }
     ensures { λ r. ⌜ Other r (now (rows .entry)) place row room ⌝ }
 {
-    if 256 <= rows[6 * place + 4] {
+    if !is_own(rows, place) {
         return true;
     }
     if row.field == MAX_INITIAL_TIMESTAMP {
@@ -134,7 +137,7 @@ fn gone_to(held: &[u32; 24], place: u32, row: HeldRow, got: u32) -> [u32; 24]
 // Takes the chunks that follow one that has ended, and says where in the input they end.
 pub fn further(
     held: &mut [u32; 24],
-    rows: &[u32; 384],
+    rows: &[u32; TABLE_LENGTH],
     input: &[u8],
     at: usize,
     payload: &mut [u8],

@@ -13,3 +13,4 @@ pub use crate::size::Telling;
 pub use crate::size::get_max_chunk_size;
 pub use crate::size::make;
 pub use crate::size::set_max_chunk_size;
+pub use held::TABLE_LENGTH;

@@ -9,6 +9,7 @@ use fields::least;
 use fields::put_bytes;
 use held::Done;
 use held::Held;
+use held::TABLE_LENGTH;
 use held::held_in;
 use held::numbers_of;
 use held::put_at;
@@ -80,7 +81,12 @@ fn landed(h: Held, n: u32) -> Done
 }
 
 // Takes as many bytes of the payload of the chunk at hand as there are.
-pub fn pay(held: &mut [u32; 24], rows: &mut [u32; 384], input: &[u8], payload: &mut [u8]) -> Moved
+pub fn pay(
+    held: &mut [u32; 24],
+    rows: &mut [u32; TABLE_LENGTH],
+    input: &[u8],
+    payload: &mut [u8],
+) -> Moved
     requires { ⌜ Ready (now held) (now input) (now payload) ⌝ }
     ensures { λ r. ⌜ Turned r (now (held .entry)) (now (rows .entry)) (now (input .entry)) (now (payload .entry)) (now (held .exit)) (now (rows .exit)) (now (payload .exit)) ⌝ }
 {

@@ -6,6 +6,7 @@ ghost use Rattle.held.specs.Numbers.{again, decode, encode, heldIn, readerFrom}
 ghost use Rattle.in_place.specs.Answer.{LentSize, LentTold, Stands, sizeOf};
 use chunk_header::INITIAL_MAX_CHUNK_SIZE;
 use chunk_header::LARGEST_CHUNK_SIZE;
+use held::TABLE_LENGTH;
 use held::held_in;
 use held::numbers_of;
 use held::renew;
@@ -20,7 +21,7 @@ pub enum Telling {
 }
 
 // A decoder to which nothing has come.
-fn fresh(held: &mut [u32; 24], rows: &mut [u32; 384], room: u32, closed: u32)
+fn fresh(held: &mut [u32; 24], rows: &mut [u32; TABLE_LENGTH], room: u32, closed: u32)
     ensures { λ _. ⌜ Stands (now (held .exit)) (now (rows .exit)) (Told·fresh room closed) ⌝ }
 {
     let numbers = [
@@ -49,13 +50,13 @@ fn fresh(held: &mut [u32; 24], rows: &mut [u32; 384], room: u32, closed: u32)
         0,
         0,
     ];
-    let none = [0; 384];
+    let none = [0; TABLE_LENGTH];
     *held = numbers;
     *rows = none;
 }
 
 // A decoder for messages of at most `room` bytes, whatever was in the arrays.
-pub fn make(held: &mut [u32; 24], rows: &mut [u32; 384], room: u32) -> Telling
+pub fn make(held: &mut [u32; 24], rows: &mut [u32; TABLE_LENGTH], room: u32) -> Telling
     ensures { λ r. ⌜ LentSize (sizeOf r) (now (held .exit)) (now (rows .exit)) (made room) ⌝ }
 {
     if room == 0 {

@@ -14,9 +14,15 @@ use crate::paying::Moved;
 use crate::paying::may_pay;
 use crate::paying::pay;
 use header_in_place::take_byte;
+use held::TABLE_LENGTH;
 
 // Takes a stretch of a payload, or a byte of a header ..
-fn once(held: &mut [u32; 24], rows: &mut [u32; 384], input: &[u8], payload: &mut [u8]) -> Moved
+fn once(
+    held: &mut [u32; 24],
+    rows: &mut [u32; TABLE_LENGTH],
+    input: &[u8],
+    payload: &mut [u8],
+) -> Moved
     requires { ⌜ (0 < length (now input)) × (getD (now held) 0 0 ≤ length (now payload)) ⌝ }
     ensures { λ r. ⌜ Turned r (now (held .entry)) (now (rows .entry)) (now (input .entry)) (now (payload .entry)) (now (held .exit)) (now (rows .exit)) (now (payload .exit)) ⌝ }
 {
@@ -31,7 +37,12 @@ fn once(held: &mut [u32; 24], rows: &mut [u32; 384], input: &[u8], payload: &mut
 }
 
 // .. and the chunks of the same message that may follow at once.
-fn turn(held: &mut [u32; 24], rows: &mut [u32; 384], input: &[u8], payload: &mut [u8]) -> Moved
+fn turn(
+    held: &mut [u32; 24],
+    rows: &mut [u32; TABLE_LENGTH],
+    input: &[u8],
+    payload: &mut [u8],
+) -> Moved
     requires { ⌜ (0 < length (now input)) × (getD (now held) 0 0 ≤ length (now payload)) ⌝ }
     ensures { λ r. ⌜ Turned r (now (held .entry)) (now (rows .entry)) (now (input .entry)) (now (payload .entry)) (now (held .exit)) (now (rows .exit)) (now (payload .exit)) ⌝ }
 {
@@ -45,7 +56,7 @@ fn turn(held: &mut [u32; 24], rows: &mut [u32; 384], input: &[u8], payload: &mut
 
 pub fn turns(
     held: &mut [u32; 24],
-    rows: &mut [u32; 384],
+    rows: &mut [u32; TABLE_LENGTH],
     input: &[u8],
     payload: &mut [u8],
 ) -> Answer

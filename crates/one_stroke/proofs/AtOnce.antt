@@ -20,7 +20,7 @@ use Rattle.byte_machine.specs.Reader.{Reader, Csid, MessagePayload, Stepped, cu
 use Rattle.byte_machine.specs.Header.{opens}
 use Rattle.byte_machine.specs.Payload.{landed, paid}
 use Rattle.byte_machine.specs.Setting.{setting}
-use Rattle.byte_machine.specs.Rows.{putAt, rowAt, rowOrEmpty}
+use Rattle.byte_machine.specs.Rows.{putAt, rowAt, rowOrEmpty, rowCount}
 use Rattle.byte_machine.proofs.RowLaws.{in-table}
 use Rattle.decoding.specs.Call.{after, next, outcome, read, run}
 use Rattle.decoding.specs.Chunk.{carried}
@@ -43,7 +43,7 @@ withTime h time = heldRow (h .id) time (h .field) (h .length) (h .kind) (h .stre
 -- what the tests saw is the chunk that the input begins with
 pub sees : (held rows input : List ℕ) (f : ChunkHeaderFormat) (kind start place time : ℕ) (row header : HeldRow)
     → f ≡ formatAt input → kind ≡ typeOf f → start ≡ 1 + headerLength (typeOf f) → 2 ≤ getD input 0 0 % 64 → start ≤ length input
-    → place ≡ placeAt rows input → place < 64 → row ≡ heldRowOf (rowOrEmpty rows place)
+    → place ≡ placeAt rows input → place < rowCount → row ≡ heldRowOf (rowOrEmpty rows place)
     → header ≡ heldRowOf (carried (headerIn f input) (rowFrom row))
     → Fits (header .field) (header .length) (getD held 0 0) (getD held 1 0) (length input - start)
     → time ≡ firstTime (formatFrom kind) (row .time) (header .field)

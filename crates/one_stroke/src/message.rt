@@ -21,6 +21,7 @@ use fields::swap_bytes;
 use held::Held;
 use held::HeldRow;
 use held::ROWS;
+use held::TABLE_LENGTH;
 use held::find;
 use held::numbers_of;
 use held::put_at;
@@ -160,7 +161,7 @@ fn unseen() -> Seen
     }
 }
 
-fn see(held: &[u32; 24], rows: &[u32; 384], input: &[u8]) -> Seen
+fn see(held: &[u32; 24], rows: &[u32; TABLE_LENGTH], input: &[u8]) -> Seen
     requires { ⌜ 0 < length (now input) ⌝ }
     ensures { λ r. ⌜ Sees r (now (held .entry)) (now (rows .entry)) (now (input .entry)) ⌝ }
 {
@@ -198,7 +199,7 @@ fn see(held: &[u32; 24], rows: &[u32; 384], input: &[u8]) -> Seen
 // Takes it, where it is one, and says how many bytes it used; 0: it is none, and nothing has changed.
 pub fn at_once(
     held: &mut [u32; 24],
-    rows: &mut [u32; 384],
+    rows: &mut [u32; TABLE_LENGTH],
     input: &[u8],
     payload: &mut [u8],
 ) -> usize

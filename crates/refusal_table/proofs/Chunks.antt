@@ -13,7 +13,7 @@ use Rattle.chunk_header.specs.Limits.{maxField}
 use Rattle.chunk_header.specs.Table.{isEmpty, isFull}
 use Rattle.chunk_meaning.specs.Stored.{Row}
 use Rattle.chunk_meaning.specs.Meaning.{basicRefusal, firstRefusal, laterRefusal, repeats}
-use Rattle.byte_machine.specs.Rows.{find, free}
+use Rattle.byte_machine.specs.Rows.{find, free, rowCount}
 use Rattle.decoding.specs.Decoder.{Decoder}
 use Rattle.decoding.specs.Chunk.{ExtendedFits, basicRefused, carried, formatFor, header, headerRefused, inside, row, says}
 use Rattle.decoding.proofs.Taken.{id-some}
@@ -59,10 +59,10 @@ module _ {came : List Sign} {messages : List Message} {d : Decoder} {buffer : Li
 
   -- at the end of the basic header: each test decides its row
   abbrev test-9 : Bool
-  test-9 = not (inside d c) && (not (isFull (formatFor (c .header))) && not (ltb (find (d .rows) (c .id)) 64))
+  test-9 = not (inside d c) && (not (isFull (formatFor (c .header))) && not (ltb (find (d .rows) (c .id)) rowCount))
 
   abbrev test-10 : Bool
-  test-10 = isFull (formatFor (c .header)) && (not (ltb (find (d .rows) (c .id)) 64) && not (ltb (free (d .rows)) 64))
+  test-10 = isFull (formatFor (c .header)) && (not (ltb (find (d .rows) (c .id)) rowCount) && not (ltb (free (d .rows)) rowCount))
 
   abbrev test-11 : Bool
   test-11 = inside d c && not (eqb (d .reader .message .id) (c .id))

@@ -10,7 +10,7 @@ use lib.Dec.{eqb, ltb}
 use lib.ListN.{length}
 use borrow.Author.Tests.{eq-eqb, ne-eqb}
 use Rattle.fields.proofs.Tests.{Decides, equal, in-words, less, not-decides}
-use Rattle.byte_machine.specs.Rows.{find, free, rowAt}
+use Rattle.byte_machine.specs.Rows.{find, free, rowAt, rowCount}
 use Rattle.byte_machine.proofs.Putting.{free-after, free-none}
 use Rattle.decoding.specs.Decoder.{Decoder}
 use Rattle.decoding.proofs.Taken.{id-some}
@@ -32,25 +32,25 @@ silent-0 (chunk c ∷ items) now streams f =
 
 module _ {came : List Sign} {messages : List Message} {d : Decoder} {buffer : List ℕ} (w : Whole came messages d buffer) where
   -- a stream has a row where something is stored of it, and that is where a chunk of it has come
-  row-stored : (id : ℕ) → id ≢ 0 → find (d .rows) id < 64 ↔ (streams (w .items) id .stored ≢ none)
-  row-stored id n = by-row (ltb (find (d .rows) id) 64) (less (find (d .rows) id) 64) (ap (λ (s : Stream). s .stored) (sym (w .sees id n)))
+  row-stored : (id : ℕ) → id ≢ 0 → find (d .rows) id < rowCount ↔ (streams (w .items) id .stored ≢ none)
+  row-stored id n = by-row (ltb (find (d .rows) id) rowCount) (less (find (d .rows) id) rowCount) (ap (λ (s : Stream). s .stored) (sym (w .sees id n)))
     where
-      by-row : (t : Bool) → Decides t (find (d .rows) id < 64)
+      by-row : (t : Bool) → Decides t (find (d .rows) id < rowCount)
           → streams (w .items) id .stored ≡ Option·map saidIn (cond t (some (rowAt (d .rows) (find (d .rows) id))) none)
-          → find (d .rows) id < 64 ↔ (streams (w .items) id .stored ≢ none)
+          → find (d .rows) id < rowCount ↔ (streams (w .items) id .stored ≢ none)
       by-row true k e = (λ h z. Option·some-ne-none _ (sym e ∙ z), λ h. k .yes refl)
       by-row false k e = (λ h. absurd (k .no refl h), λ h. absurd (h e))
 
-  pub has-row : (id : ℕ) → id ≢ 0 → Decides (ltb (find (d .rows) id) 64) (HasRow (w .items) id)
+  pub has-row : (id : ℕ) → id ≢ 0 → Decides (ltb (find (d .rows) id) rowCount) (HasRow (w .items) id)
   has-row id n =
       let s = stores-last (w .items) id .1 .there in
       let r = row-stored id n in
-      in-words (λ h. s .0 (r .0 h), λ h. r .1 (s .1 h)) (less (find (d .rows) id) 64)
+      in-words (λ h. s .0 (r .0 h), λ h. r .1 (s .1 h)) (less (find (d .rows) id) rowCount)
 
-  pub all-used : Decides (not (ltb (free (d .rows)) 64)) (AllUsed (w .items))
-  all-used = in-words (to, from) (not-decides (less (free (d .rows)) 64))
+  pub all-used : Decides (not (ltb (free (d .rows)) rowCount)) (AllUsed (w .items))
+  all-used = in-words (to, from) (not-decides (less (free (d .rows)) rowCount))
     where
-      to : ¬ (free (d .rows) < 64) → AllUsed (w .items)
+      to : ¬ (free (d .rows) < rowCount) → AllUsed (w .items)
       to n = by-length (ltb (length opened-ids) 64) (less (length opened-ids) 64)
         where
           opened-ids : List ℕ
@@ -60,7 +60,7 @@ module _ {came : List Sign} {messages : List Message} {d : Decoder} {buffer : Li
           by-length true k = let l = k .yes refl in absurd (n (rw (free-after (w .ids) l) l))
           by-length false k = let l = k .no refl in omega (arith, l)
 
-      from : AllUsed (w .items) → ¬ (free (d .rows) < 64)
+      from : AllUsed (w .items) → ¬ (free (d .rows) < rowCount)
       from u h = let l = free-none (w .ids) h in omega (arith, l, u)
 
   -- the unfinished message is that of the decoder's message in hand

@@ -1,5 +1,5 @@
 -- Encoder and decoder agree: between messages what the encoder remembers of every stream whose last message was not droppable is what was said last on it.
-use Prim.Native.Nat.{ℕ, _+_, _*_, _^_, _≤_, _<_}
+use Prim.Native.Nat.{ℕ, _+_, _^_, _≤_, _<_}
 use mathlib.Core.Path.{_≡_, refl, sym, ap, _∙_}
 use mathlib.Core.Logic.{_≢_}
 use mathlib.Core.Bool.{Bool, true, false}
@@ -22,6 +22,7 @@ use Rattle.decoding.specs.Decoder.{Decoder}
 use Rattle.decoding.specs.Calls.{Ready, by-new}
 use Rattle.decoding.specs.Told.{between, made, maxRoom}
 use Rattle.byte_machine.specs.Reader.{atStart}
+use Rattle.byte_machine.proofs.Putting.{lists-empty}
 use Rattle.fields.proofs.Tests.{both, clash, equal, itself}
 use Rattle.stream_meaning.specs.Stream.{Stream}
 use Rattle.stream_meaning.specs.View.{viewed}
@@ -124,7 +125,7 @@ fresh-agree room buffer p q l =
       between-now = refl;
       size = refl;
       some = omega arith;
-      spare = record { ids = []; lists = record { each = λ i h. getD-replicate {A = ℕ} 384 (6 * i) 0 0 (omega (arith, h)); used = λ i h. absurd (omega (arith, h)); most = omega arith }; few = omega arith };
+      spare = record { ids = []; lists = lists-empty; few = omega arith };
       long = refl;
       knows = λ i l. rw (getD-replicate {A = ChunkHeader} 5 i nothing nothing l) record { held = λ e. absurd (omega (arith, e)); time = omega arith };
     }

@@ -24,7 +24,7 @@ use Rattle.serializer.specs.Packet.{chunk, extended}
 use Rattle.serializer.proofs.Stream.{stream-range}
 use Rattle.chunk_meaning.specs.Stored.{Row}
 use Rattle.chunk_meaning.specs.Meaning.{firstRefusal, basicRefusal}
-use Rattle.byte_machine.specs.Rows.{free}
+use Rattle.byte_machine.specs.Rows.{free, rowCount}
 use Rattle.decoding.specs.Decoder.{Decoder}
 use Rattle.decoding.specs.Chunk.{basicRefused, header}
 use Rattle.stream_meaning.specs.Stream.{Said, Stream, saying, Fits as FitsStream}
@@ -131,7 +131,7 @@ module _ (m : Message) (previous : ChunkHeader) (piece : List ℕ) where
 
     basic-first : (f : ChunkHeaderFormat) → Chosen m previous f → basicRefused d (first f) ≡ 0
     unfolding basicRefusal
-    basic-first Full full = rw (eq-eqb (d .reader .message .id) 0 between, lt-ltb (free (d .rows)) 64 (free-some (d .rows) spare), and-false)
+    basic-first Full full = rw (eq-eqb (d .reader .message .id) 0 between, lt-ltb (free (d .rows)) rowCount (free-some (d .rows) spare), and-false)
     basic-first TimeDeltaWithoutMessageStreamId (without-stream g) = rw (eq-eqb (d .reader .message .id) 0 between, seen-there (d .rows) _ (knows g))
     basic-first TimeDeltaOnly (delta-only g a b) = rw (eq-eqb (d .reader .message .id) 0 between, seen-there (d .rows) _ (knows g))
     basic-first Empty (empty g a b c) = rw (eq-eqb (d .reader .message .id) 0 between, seen-there (d .rows) _ (knows g))

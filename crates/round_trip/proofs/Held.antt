@@ -9,16 +9,16 @@ use lib.Dec.{ltb, eqb}
 use lib.ListN.{length, length-append}
 use borrow.Author.Tests.{eqb-true}
 use Rattle.fields.specs.Cases.{among}
-use Rattle.byte_machine.specs.Rows.{find, free, ownRow}
+use Rattle.byte_machine.specs.Rows.{find, free, ownRow, rowCount}
 use Rattle.byte_machine.proofs.Putting.{Lists, free-after}
 use Rattle.stream_meaning.specs.Stream.{Said}
 use Rattle.stream_meaning.specs.View.{saidIn}
 
 -- a stream on which something was said has a row
-pub seen-there : (rows : List ℕ) (id : ℕ) {said : Said} → Option·map saidIn (ownRow rows id) ≡ some said → ltb (find rows id) 64 ≡ true
-seen-there rows id h = by-row (ltb (find rows id) 64) refl
+pub seen-there : (rows : List ℕ) (id : ℕ) {said : Said} → Option·map saidIn (ownRow rows id) ≡ some said → ltb (find rows id) rowCount ≡ true
+seen-there rows id h = by-row (ltb (find rows id) rowCount) refl
   where
-    by-row : (t : Bool) → ltb (find rows id) 64 ≡ t → ltb (find rows id) 64 ≡ true
+    by-row : (t : Bool) → ltb (find rows id) rowCount ≡ t → ltb (find rows id) rowCount ≡ true
     by-row true e = e
     by-row false e = absurd (let z = rw e at h in let q : _≡_ {A = ℕ} 0 1 = cc in omega arith)
 
@@ -45,9 +45,9 @@ pub record Spare (rows : List ℕ) : Type 0 where
   pub lists : Lists rows ids
   pub few : length ids ≤ tally ids
 
-pub free-some : (rows : List ℕ) → Spare rows → free rows < 64
+pub free-some : (rows : List ℕ) → Spare rows → free rows < rowCount
 free-some rows s =
-    let l : length (s .ids) < 64 = omega (arith, s .few, tally-most (s .ids)) in
+    let l : length (s .ids) < rowCount = omega (arith, s .few, tally-most (s .ids)) in
     omega (arith, free-after (s .lists) l, l)
 
 -- one more of the five

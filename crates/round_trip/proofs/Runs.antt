@@ -20,7 +20,7 @@ use Rattle.byte_machine.specs.Payload.{pays, landed}
 use Rattle.byte_machine.specs.Step.{named, timestampField, lengthField, typeField, streamField, extendedField}
 use Rattle.byte_machine.specs.Header.{opens, whole, extendedNext, streamNext, typeNext, lengthNext, timestampNext}
 use Rattle.chunk_meaning.specs.Meaning.{basicRefusal, laterRefusal, firstRefusal}
-use Rattle.byte_machine.specs.Rows.{putRow, seek}
+use Rattle.byte_machine.specs.Rows.{find, free, putRow}
 use Rattle.decoding.specs.Told.{made, told, between}
 use Rattle.round_trip.specs.Demand3.{
   new,
@@ -70,7 +70,7 @@ use Rattle.round_trip.specs.Runs.{
 
 -- all that a run computes with: a statement that unfolds this unfolds what it names
 unfoldable computing : Type 0
-unfolding fieldLength formatOf after next run stepOf writes opens whole extendedNext streamNext typeNext lengthNext timestampNext named timestampField lengthField typeField streamField extendedField pays landed basicRefusal laterRefusal firstRefusal putRow seek made told bigEndian littleEndian gather csid chunkBytes delta format chunkStream pieces packet sent serialized sizeChanged
+unfolding fieldLength formatOf after next run stepOf writes opens whole extendedNext streamNext typeNext lengthNext timestampNext named timestampField lengthField typeField streamField extendedField pays landed basicRefusal laterRefusal firstRefusal putRow find free made told bigEndian littleEndian gather csid chunkBytes delta format chunkStream pieces packet sent serialized sizeChanged
 computing = Unit {0}
 
 -- the trip: what is written ..

@@ -16,7 +16,7 @@ use Rattle.byte_machine.specs.Payload.{pays, landed}
 use Rattle.byte_machine.specs.Step.{named, timestampField, lengthField, typeField, streamField, extendedField}
 use Rattle.byte_machine.specs.Header.{opens, whole, extendedNext, streamNext, typeNext, lengthNext, timestampNext}
 use Rattle.chunk_meaning.specs.Meaning.{basicRefusal, laterRefusal, firstRefusal}
-use Rattle.byte_machine.specs.Rows.{putRow, seek}
+use Rattle.byte_machine.specs.Rows.{find, free, putRow}
 use Rattle.decoding.specs.Told.{made}
 use Rattle.stream_meaning.specs.Connection.{AllFit}
 use Rattle.time.specs.Distance.{wrapped}
@@ -25,7 +25,7 @@ use Rattle.samples.specs.Worked.{items}
 use Rattle.samples.specs.Table.{table}
 
 pub samples-hold : AsPrinted table
-unfolding fieldLength formatOf after next run stepOf writes opens whole extendedNext streamNext typeNext lengthNext timestampNext named timestampField lengthField typeField streamField extendedField pays landed basicRefusal laterRefusal firstRefusal putRow seek made bigEndian littleEndian gather csid chunkBytes known count reading delta format chunkStream pieces packet sent serialized sizeChanged wrapped
+unfolding fieldLength formatOf after next run stepOf writes opens whole extendedNext streamNext typeNext lengthNext timestampNext named timestampField lengthField typeField streamField extendedField pays landed basicRefusal laterRefusal firstRefusal putRow find free made bigEndian littleEndian gather csid chunkBytes known count reading delta format chunkStream pieces packet sent serialized sizeChanged wrapped
 samples-hold = refl
 
 -- each of Adobe's chunks fits the chunk size of 128 and its stream

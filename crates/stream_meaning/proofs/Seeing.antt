@@ -13,7 +13,7 @@ use borrow.Author.Tests.{eq-eqb, eqb-false, eqb-true, ne-eqb}
 use Rattle.chunk_header.specs.Layout.{Chunk, Extended, FormFits, Header, absent, present, type0, type1, type2, type3}
 use Rattle.chunk_meaning.specs.Stored.{Row}
 use Rattle.chunk_meaning.specs.Meaning.{firstTime}
-use Rattle.byte_machine.specs.Rows.{find}
+use Rattle.byte_machine.specs.Rows.{find, rowCount}
 use Rattle.decoding.specs.Decoder.{Decoder}
 use Rattle.decoding.specs.Chunk.{ChunkFits, ExtendedFits, HeadFits as DecoderFits, basicRefused, carried, formatFor, got, header, row, says, stored}
 use Rattle.decoding.proofs.Accepts.{own-stream}
@@ -50,9 +50,9 @@ fits-there (present time) r h = h
 -- what a head says
 module _ (d : Decoder) (buffer : List ℕ) (c : Chunk) where
   pub before-is : before (viewed d buffer (c .id)) c ≡ saidIn (row d c)
-  before-is = by-row (ltb (find (d .rows) (c .id)) 64) refl
+  before-is = by-row (ltb (find (d .rows) (c .id)) rowCount) refl
     where
-      by-row : (t : Bool) → ltb (find (d .rows) (c .id)) 64 ≡ t → before (viewed d buffer (c .id)) c ≡ saidIn (row d c)
+      by-row : (t : Bool) → ltb (find (d .rows) (c .id)) rowCount ≡ t → before (viewed d buffer (c .id)) c ≡ saidIn (row d c)
       by-row true e = rw e
       by-row false e = rw e
 

@@ -1,19 +1,18 @@
 -- A decoder between chunks, to which items have come whole: it sees what they make of each stream, and has handed out what they mean.
-use Prim.Native.Nat.{ℕ, _*_, _≤_, _<_}
+use Prim.Native.Nat.{ℕ, _≤_}
 use mathlib.Core.Bool.{Bool, true, false, cond}
 use mathlib.Core.List.{List, [], _∷_, _++_, append-nil}
 use mathlib.Core.Logic.{_≢_}
 use mathlib.Core.Option.{Option, none, some}
 use mathlib.Core.Path.{_≡_, refl, sym, ap, subst, _∙_}
 use native.Mathlib.Omega.{arith}
-use lib.Dec.{eqb, ltb}
-use lib.ListN.{getD-replicate, length, replicate}
-use borrow.Author.Tests.{eqb-false, eqb-true, ltb-true, ne-eqb}
+use lib.Dec.{eqb}
+use lib.ListN.{length}
+use borrow.Author.Tests.{eqb-false, eqb-true, ne-eqb}
 use Rattle.chunk_header.specs.Layout.{Chunk, chunkBytes}
 use Rattle.chunk_header.specs.Limits.{initialSize}
-use Rattle.byte_machine.specs.Rows.{find}
-use Rattle.byte_machine.proofs.Putting.{Lists}
-use Rattle.byte_machine.proofs.RowLaws.{find-tells}
+use Rattle.byte_machine.proofs.Putting.{Lists, lists-empty}
+use Rattle.byte_machine.proofs.RowLaws.{find-empty}
 use Rattle.decoding.specs.Decoder.{Decoder}
 use Rattle.decoding.specs.Call.{Outcome}
 use Rattle.decoding.specs.Calls.{Ready, after-size, by-new}
@@ -124,26 +123,17 @@ whole-sized {came} {messages} {d} {buffer} w new e = record {
 }
 
 -- a fresh decoder sees silent streams
-no-row : (id : ℕ) → id ≢ 0 → ltb (find (replicate 384 0) id) 64 ≡ false
-no-row id n = by-test (ltb (find (replicate 384 0) id) 64) refl
-  where
-    by-test : (t : Bool) → ltb (find (replicate 384 0) id) 64 ≡ t → ltb (find (replicate 384 0) id) 64 ≡ false
-    by-test true e =
-        let h : find (replicate 384 0) id < 64 = ltb-true _ _ e in
-        absurd (n (sym (find-tells (replicate 384 0) id h) ∙ getD-replicate {A = ℕ} 384 (6 * find (replicate 384 0) id) 0 0 (omega arith)))
-    by-test false e = e
-
 pub whole-fresh : (room : ℕ) (buffer : List ℕ) → made room .answer ≡ size-taken → room ≤ length buffer → Whole [] [] (made room .deserializer) buffer
 whole-fresh room buffer e l =
     let f = made-fresh room e in
     record {
       items = [];
       ready = record { by-calls = by-new room; open-still = rw f; between-chunks = rw f; long = rw f l };
-      sees = rw f (λ id n. streams-same (rw (no-row id n)) (rw (ne-eqb 0 id (λ z. n (sym z)))));
+      sees = rw f (λ id n. streams-same (rw (find-empty id n)) (rw (ne-eqb 0 id (λ z. n (sym z)))));
       fits = tt;
       in-force = rw f;
       handed-out = refl;
       is = refl;
-      ids = rw f (record { each = λ i k. getD-replicate {A = ℕ} 384 (6 * i) 0 0 (omega arith); used = λ i k. absurd (omega arith); most = omega arith });
+      ids = rw f lists-empty;
       fit-room = λ id. omega arith;
     }

@@ -1,24 +1,13 @@
 -- Where every test is passed, the row stays where it is put over itself.
-use Prim.Native.Nat.{_+_, _*_}
-use mathlib.Core.Path.{sym}
-use lib.ListN.{getD}
-use borrow.Author.Tests.{lt-leb, ltb-false}
+use mathlib.Core.Path.{sym, _∙_}
+use borrow.Author.Tests.{ltb-false, not-false}
 use Rattle.fields.proofs.Tests.{never}
 use borrow.Author.Needs.{needs}
 use Rattle.in_place.proofs.further.is_other.Statement.{statement}
 use Rattle.in_place.proofs.further.is_other.Tie as tie
 
-mul-if1 : tie.Need-mul-if1
-mul-if1 c = search needs
-
-add-if1 : tie.Need-add-if1
-add-if1 c = search needs
-
-mul-if1-2 : tie.Need-mul-if1-2
-mul-if1-2 c = search needs
-
-element-copy-out-if1 : tie.Need-element-copy-out-if1
-element-copy-out-if1 c = search needs
+is-own-requires : tie.Need-is-own-requires
+is-own-requires c κs = search needs
 
 returns : tie.Need-returns
 returns c = λ e. never (sym e)
@@ -31,11 +20,11 @@ returns-3 c =
     λ e.
     let a = c .before .before .before .before .before .args in
     record {
-      own = lt-leb 256 (getD (a .rows .now) (6 * a .place + 4) 0) (c .before .before .before .if1 .left);
+      own = let o = c .before .before .before .before .is-own in sym (o .ensures) ∙ not-false (o .result) (c .before .before .before .if1 .left);
       plain = c .before .if2 .left;
       fits = ltb-false (a .room) (a .row .length) e;
     }
 
 pub is-other-spec : {M : Type 1} → statement M
 is-other-spec =
-    tie.close (tie.spec mul-if1 add-if1 mul-if1-2 element-copy-out-if1 returns returns-2 returns-3)
+    tie.close (tie.spec is-own-requires returns returns-2 returns-3)
