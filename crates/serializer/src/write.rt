@@ -4,7 +4,7 @@ ghost use mathlib.Core.List.{[], _++_};
 ghost use Prim.Native.Nat.{_+_, _*_, _≤_, _<_};
 ghost use lib.ListN.{length};
 ghost use Rattle.fields.specs.Endian.{bigEndian, littleEndian};
-ghost use Rattle.fields.specs.Output.{Adds, over};
+ghost use Rattle.fields.specs.Output.{Adds, over, stored};
 ghost use Rattle.chunk_header.specs.Layout.{chunkBytes, extendedBytes, headerBytes};
 ghost use Rattle.chunk_header.specs.Table.{headerLength, typeOf};
 ghost use Rattle.serializer.specs.Packet.{chunk, chunked, extended, initialTime, messageHeader};
@@ -114,6 +114,21 @@ fn add_header(output: &mut [u8], at: usize, format: ChunkHeaderFormat, header: C
     add_extended_timestamp(output, at2, header.timestamp_field)
 }
 
+// Puts a payload from `at` on. A long one goes in two parts, so that most of it is stored at multiples of 16, counted from the
+// output's start: stores that reach into two lines of the cache take longer.
+fn put_payload(payload: &[u8], output: &mut [u8], at: usize)
+    requires { ⌜ at + length (now payload) ≤ length (now output) ⌝ }
+    ensures { λ _. ⌜ now (output .exit) ≡ stored (now (output .entry)) at (now (payload .entry)) ⌝ }
+{
+    let short = 16 - at % 16;
+    if payload.len() < 512 {
+        put_bytes(payload, output, at);
+        return;
+    }
+    put_bytes(&payload[0..short], output, at);
+    put_bytes(&payload[short..], output, at + short);
+}
+
 // Adds a chunk, and answers the place after it.
 fn add_chunk(
     output: &mut [u8],
@@ -126,7 +141,7 @@ fn add_chunk(
     ensures { λ r. ⌜ Adds (now (output .entry)) at (chunkBytes (chunk format header (now (payload .entry)))) r (now (output .exit)) ⌝ }
 {
     let next = add_header(output, at, format, header);
-    put_bytes(payload, output, next);
+    put_payload(payload, output, next);
     next + payload.len()
 }
 
@@ -171,5 +186,5 @@ pub fn write_packet(
     let header = first.header;
     let format = first.format;
     let at = add_header(output, 0, format, header);
-    put_bytes(payload, output, at);
+    put_payload(payload, output, at);
 }

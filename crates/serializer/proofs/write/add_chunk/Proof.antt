@@ -16,8 +16,12 @@ add-header-requires c κs =
     let a = c .before .before .before .args in
     (c .before .before .before .pre .0, omega (arith, c .before .before .before .pre .1, length-chunk (a .format) (a .header) (a .payload .now)))
 
-put-bytes-requires : tie.Need-put-bytes-requires
-put-bytes-requires c κs = search needs
+put-payload-requires : tie.Need-put-payload-requires
+put-payload-requires c κs =
+    let h = c .before .before .before in
+    let s = h .before .before .before .before in
+    let a = s .args in
+    omega (arith, h .add-header .ensures .place, h .add-header .kept .0, s .pre .1, length-chunk (a .format) (a .header) (a .payload .now))
 
 add-result : tie.Need-add-result
 add-result c =
@@ -33,9 +37,9 @@ returns c =
     let s = c .before .before .before .before .before .before in
     let head = chunkBytes (chunk (a .format) (a .header) []) in
     adds-same (sym (chunk-split (a .format) (a .header) (a .payload .now)))
-    (adds-then (a .output .now) head (a .payload .now) (s .add-header .ensures) (record { place = refl; left = c .before .before .put-bytes .ensures })
+    (adds-then (a .output .now) head (a .payload .now) (s .add-header .ensures) (record { place = refl; left = c .before .before .put-payload .ensures })
     (omega (arith, s .add-header .ensures .place, c .before .before .before .before .before .before .before .before .before .before .pre .1, length-chunk (a .format) (a .header) (a .payload .now))))
 
 pub add-chunk-spec : {M : Type 1} → statement M
 add-chunk-spec =
-    tie.close (tie.spec add-header-requires put-bytes-requires add-result same-length returns)
+    tie.close (tie.spec add-header-requires put-payload-requires add-result same-length returns)

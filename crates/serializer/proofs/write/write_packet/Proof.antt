@@ -43,8 +43,11 @@ add-header-requires c κs =
     let s = c .before .before .before .before .before in
     (s .pre .0, omega (arith, fits s (c .before .before .if1 .left)))
 
-put-bytes-requires : tie.Need-put-bytes-requires
-put-bytes-requires c κs = search needs
+put-payload-requires : tie.Need-put-payload-requires
+put-payload-requires c κs =
+    let h = c .before .before .before in
+    let s = h .before .before .before .before .before .before in
+    omega (arith, h .add-header .ensures .place, h .add-header .kept .0, fits s (h .before .before .before .if1 .left))
 
 same-length-2 : tie.Need-same-length-2
 same-length-2 c = search needs
@@ -58,7 +61,7 @@ returns-2 c =
     let head = chunkBytes (chunk (a .first .format) (a .first .header) []) in
     let all = chunked (a .first .format) (a .later) (a .first .header) (a .size) (a .payload .now) in
     let split : all ≡ head ++ a .payload .now = one s less ∙ chunk-split (a .first .format) (a .first .header) (a .payload .now) in
-    let done = adds-then (a .output .now) head (a .payload .now) (h .add-header .ensures) (record { place = refl; left = c .before .before .put-bytes .ensures }) (omega (arith, h .add-header .ensures .place, fits s less)) in
+    let done = adds-then (a .output .now) head (a .payload .now) (h .add-header .ensures) (record { place = refl; left = c .before .before .put-payload .ensures }) (omega (arith, h .add-header .ensures .place, fits s less)) in
     done .left ∙ ap (stored (a .output .now) 0) (sym split) ∙ stored-over [] all (a .output .now) 0 refl (omega (arith, s .pre .3))
 
 pub write-packet-spec : {M : Type 1} → statement M
@@ -69,6 +72,6 @@ write-packet-spec =
     same-length
     returns
     add-header-requires
-    put-bytes-requires
+    put-payload-requires
     same-length-2
     returns-2)
