@@ -14,7 +14,7 @@ use Rattle.serializer.specs.Packet.{laterFormat, packet}
 
 -- a fresh encoder: nothing remembered
 abbrev pub fresh : ChunkSerializer
-fresh = record { «previous_headers» = replicate 5 nothing; «max_chunk_size» = initialSize }
+fresh = record { «previous_headers» = replicate 5 nothing; «max_chunk_size» = initialSize; unused = 0 }
 
 -- the row of a message's chunk stream: 2 to 6 have rows 0 to 4
 abbrev pub rowOf : Message → ℕ
@@ -25,7 +25,7 @@ previous s m = getD (s .«previous_headers») (rowOf m) nothing
 
 -- the encoder with the message's header remembered, and a chunk size
 abbrev pub remember : ChunkSerializer → Message → (size : ℕ) → ChunkSerializer
-remember s m size = record { «previous_headers» = set (s .«previous_headers») (rowOf m) (header m (previous s m)); «max_chunk_size» = size }
+remember s m size = record { «previous_headers» = set (s .«previous_headers») (rowOf m) (header m (previous s m)); «max_chunk_size» = size; unused = s .unused }
 
 -- the chunk size in force, which no call makes 0
 abbrev pub sizeOf : ChunkSerializer → ℕ

@@ -31,6 +31,8 @@ const MAX_MESSAGE_LENGTH: usize = 16777215;
 pub struct ChunkSerializer {
     previous_headers: [ChunkHeader; 5],
     max_chunk_size: u32,
+    // 0, for nothing but the length: an encoder is copied with each call, in eight steps of 16 bytes
+    unused: u32,
 }
 
 // What became of a message.
@@ -137,6 +139,7 @@ impl ChunkSerializer {
         ChunkSerializer {
             previous_headers: [nothing; 5],
             max_chunk_size: INITIAL_MAX_CHUNK_SIZE,
+            unused: 0,
         }
     }
 
