@@ -4,7 +4,6 @@ use crate::parts::after;
 use crate::parts::piece_end;
 use crate::tally::Tally;
 use crate::tally::tell;
-use deserializer::Answer;
 use deserializer::ChunkDeserializer;
 use test_calls::used_of;
 use test_parts::part;
@@ -15,30 +14,6 @@ fn decoder(room: u32, size: u32) -> ChunkDeserializer {
     let fresh = made.deserializer;
     let told = fresh.set_max_chunk_size(size);
     told.deserializer
-}
-
-// The answer as the lent form has it.
-fn lent(answer: Answer) -> in_place::Answer {
-    match answer {
-        Answer::Message {
-            type_id,
-            stream_id,
-            timestamp,
-            length,
-            used,
-        } => in_place::Answer::Message {
-            type_id: type_id as u32,
-            stream_id,
-            timestamp,
-            length,
-            used,
-        },
-        Answer::More { used } => in_place::Answer::More { used },
-        Answer::Refused { number, used } => in_place::Answer::Refused {
-            number: number as u32,
-            used,
-        },
-    }
 }
 
 // Decodes all of `input`, and tells messages, calls, bytes taken and the checksum.
@@ -60,8 +35,7 @@ pub extern "C" fn bench_decode_by_value(
         end = piece_end(end, at, piece, input.len());
         let decoded = state.get_next_message(part(input, at, end), payload);
         let next = decoded.deserializer;
-        let by_value = decoded.answer;
-        let answer = lent(by_value);
+        let answer = decoded.answer;
         state = next;
         tally = counted(tally, answer, payload, every);
         at = after(at, used_of(answer), input.len());

@@ -26,8 +26,9 @@ pub struct ChunkHeader {
     pub timestamp: RtmpTimestamp,
     pub timestamp_field: u32,
     pub message_length: u32,
-    pub message_type_id: u8,
     pub message_stream_id: u32,
+    // last, with the other byte, so that a row has 24 bytes
+    pub message_type_id: u8,
     pub can_be_dropped: bool,
 }
 

@@ -30,9 +30,6 @@ part-requires c κs = search needs
 get-next-message-requires : tie.Need-get-next-message-requires Inv-loop μ-loop
 get-next-message-requires c κs = search needs
 
-lent-requires : tie.Need-lent-requires Inv-loop μ-loop
-lent-requires c κs = search needs
-
 counted-requires : tie.Need-counted-requires Inv-loop μ-loop
 counted-requires c κs = search needs
 
@@ -69,7 +66,6 @@ bench-decode-by-value-spec =
     piece-end-requires
     part-requires
     get-next-message-requires
-    lent-requires
     counted-requires
     used-of-requires
     after-requires
