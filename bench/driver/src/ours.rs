@@ -52,12 +52,12 @@ fn tally(report: [u64; 4]) -> Tally {
 /// What a decoder is held in.
 pub struct Lent {
     held: [u32; 24],
-    rows: [u32; 384],
+    rows: [u32; 385],
 }
 
 impl Lent {
     pub fn new() -> Lent {
-        Lent { held: [0; 24], rows: [0; 384] }
+        Lent { held: [0; 24], rows: [0; 385] }
     }
 }
 

@@ -4,6 +4,7 @@ use crate::parts::after;
 use crate::parts::piece_end;
 use crate::tally::Tally;
 use crate::tally::tell;
+use in_place::TABLE_LENGTH;
 use in_place::next_message;
 use test_calls::make_sized;
 use test_calls::used_of;
@@ -13,7 +14,7 @@ use test_parts::part;
 #[no_mangle]
 pub extern "C" fn bench_decode(
     held: &mut [u32; 24],
-    rows: &mut [u32; 384],
+    rows: &mut [u32; TABLE_LENGTH],
     room: u32,
     size: u32,
     input: &[u8],

@@ -3,6 +3,7 @@ use crate::hash::print_hash;
 use crate::sha256::sha256;
 use fields::number_at;
 use in_place::Answer;
+use in_place::TABLE_LENGTH;
 use in_place::make;
 use in_place::set_max_chunk_size;
 use test_calls::Cut;
@@ -68,7 +69,7 @@ fn take_answer(so_far: Walk, held: &mut [u32; 24], answer: Answer, payload: &[u8
 fn turn(
     so_far: Walk,
     held: &mut [u32; 24],
-    rows: &mut [u32; 384],
+    rows: &mut [u32; TABLE_LENGTH],
     capture: &[u8],
     payload: &mut [u8],
 ) -> Walk {
@@ -82,7 +83,7 @@ fn turn(
 fn walk_all(
     start: Walk,
     held: &mut [u32; 24],
-    rows: &mut [u32; 384],
+    rows: &mut [u32; TABLE_LENGTH],
     capture: &[u8],
     payload: &mut [u8],
 ) -> Walk {
@@ -112,7 +113,7 @@ fn print_end(used: usize, length: usize, may_tell: bool) {
 // Offers all of the capture, and writes each message and where it ended.
 pub fn walk_through(capture: &[u8], cut: Cut, payload: &mut [u8]) {
     let mut held = [0u32; 24];
-    let mut rows = [0u32; 384];
+    let mut rows = [0u32; TABLE_LENGTH];
     make(&mut held, &mut rows, ROOM);
     let end = walk_all(Walk::new(cut), &mut held, &mut rows, capture, payload);
     print_end(end.used, capture.len(), may_tell(&mut held));

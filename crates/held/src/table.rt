@@ -1,25 +1,36 @@
-// The table of 64 header rows, lent as numbers: six a row, and a row of id 0 is free.
+// The table of 64 header rows, lent as numbers: six a row, and after them how many rows are used, from the first on.
 ghost use mathlib.Core.Path.{_≡_};
 ghost use Prim.Native.Nat.{_<_};
-ghost use Rattle.byte_machine.specs.Rows.{find as Rows·find, free, isOwn, putAt, putRow, rowAt, rowCount, rowOrEmpty};
+ghost use Rattle.byte_machine.specs.Rows.{counted, find as Rows·find, free, isOwn, putAt, putRow, rowAt, rowCount, rowOrEmpty, used as Rows·used};
 ghost use Rattle.held.specs.Numbers.{rowFrom, heldRowOf};
+use crate::amounts::least;
+use crate::amounts::wide;
 use crate::numbers::HeldRow;
 
 pub const ROWS: usize = 64;
 
-// How many numbers the table has.
-pub const TABLE_LENGTH: usize = 384;
+// How many numbers the table has, and where the count is.
+pub const TABLE_LENGTH: usize = 385;
 
-// The first row of this id, or 64.
+const COUNT: usize = 384;
+
+// How many rows are used; a larger count means all.
+fn used(rows: &[u32; TABLE_LENGTH]) -> usize
+    ensures { λ r. ⌜ r ≡ Rows·used (now (rows .entry)) ⌝ }
+{
+    wide(least(rows[COUNT], 64))
+}
+
+// The row of this id, searched from the newest row back, or 64.
 pub fn find(rows: &[u32; TABLE_LENGTH], id: u32) -> usize
     ensures { λ r. ⌜ r ≡ Rows·find (now (rows .entry)) id ⌝ }
 {
-    let mut i = 0;
-    while i < ROWS {
+    let mut i = used(rows);
+    while 0 < i {
+        i -= 1;
         if rows[6 * i] == id {
             return i;
         }
-        i += 1;
     }
     ROWS
 }
@@ -28,7 +39,7 @@ pub fn find(rows: &[u32; TABLE_LENGTH], id: u32) -> usize
 pub fn first_free(rows: &[u32; TABLE_LENGTH]) -> usize
     ensures { λ r. ⌜ r ≡ free (now (rows .entry)) ⌝ }
 {
-    find(rows, 0)
+    used(rows)
 }
 
 // Whether the row at a place, put over itself, stays as it is: the number of its type is a byte.
@@ -54,10 +65,21 @@ pub fn row_in(rows: &[u32; TABLE_LENGTH], i: usize) -> HeldRow
     }
 }
 
+// Counts the row at a place as used, and those before it.
+fn count(rows: &mut [u32; TABLE_LENGTH], i: usize)
+    requires { ⌜ i < rowCount ⌝ }
+    ensures { λ _. ⌜ now (rows .exit) ≡ counted (now (rows .entry)) i ⌝ }
+{
+    if used(rows) <= i {
+        rows[COUNT] = i as u32 + 1;
+    }
+}
+
 fn put_row(rows: &mut [u32; TABLE_LENGTH], i: usize, row: HeldRow)
     requires { ⌜ i < rowCount ⌝ }
     ensures { λ _. ⌜ now (rows .exit) ≡ putRow (now (rows .entry)) i (rowFrom row) ⌝ }
 {
+    count(rows, i);
     let at = 6 * i;
     rows[at] = row.id;
     rows[at + 1] = row.time;

@@ -1,5 +1,6 @@
 // One message by a decoder, its bytes in pieces.
 use in_place::Answer;
+use in_place::TABLE_LENGTH;
 use test_calls::Cut;
 use test_calls::Walk;
 use test_calls::Walked;
@@ -63,7 +64,7 @@ pub extern "C" fn large_decode(
     report: &mut [u64; 8],
 ) {
     let mut held = [0u32; 24];
-    let mut rows = [0u32; 384];
+    let mut rows = [0u32; TABLE_LENGTH];
     make_sized(&mut held, &mut rows, room, size);
     let start = Walk::new(Cut::even(piece));
     let walked = next_answer(start, &mut held, &mut rows, input, payload);

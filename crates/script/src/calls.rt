@@ -1,4 +1,5 @@
 // The calls that lines are.
+use in_place::TABLE_LENGTH;
 use script_bodies::make_body;
 use script_bodies::make_control;
 use script_bodies::make_settings;
@@ -40,7 +41,7 @@ fn make_other(family: usize, line: &[u8], bytes: &mut [u8], output: &mut [u8]) -
 pub fn make(
     encoder: ChunkSerializer,
     held: &mut [u32; 24],
-    rows: &mut [u32; 384],
+    rows: &mut [u32; TABLE_LENGTH],
     line: &[u8],
     bytes: &mut [u8],
     output: &mut [u8],

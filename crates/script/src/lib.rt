@@ -1,4 +1,5 @@
 // Runs a script of the codec's calls: one call a line on standard input, one answer a line on
+use in_place::TABLE_LENGTH;
 // standard output.
 mod calls;
 mod turns;
@@ -30,7 +31,7 @@ pub fn run() {
     let mut output = [0u8; OUTPUT_LENGTH];
     let mut payload = [0u8; PAYLOAD_LENGTH];
     let mut held = [0u32; 24];
-    let mut rows = [0u32; 384];
+    let mut rows = [0u32; TABLE_LENGTH];
     in_place::make(&mut held, &mut rows, FIRST_ROOM);
     turns::run_all(
         &mut held,

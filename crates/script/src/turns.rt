@@ -5,6 +5,7 @@ use crate::OUTPUT_LENGTH;
 use crate::PAYLOAD_LENGTH;
 use crate::TEXT_LENGTH;
 use crate::calls::make;
+use in_place::TABLE_LENGTH;
 use script_lines::State;
 use script_lines::end_answer;
 use script_lines::is_skipped;
@@ -47,7 +48,7 @@ fn answer_line(
     kept: Kept,
     line: &[u8],
     held: &mut [u32; 24],
-    rows: &mut [u32; 384],
+    rows: &mut [u32; TABLE_LENGTH],
     text: &mut [u8],
     bytes: &mut [u8],
     output: &mut [u8],
@@ -68,7 +69,7 @@ fn answer_line(
 fn turn(
     kept: Kept,
     held: &mut [u32; 24],
-    rows: &mut [u32; 384],
+    rows: &mut [u32; TABLE_LENGTH],
     input: &mut [u8; INPUT_LENGTH],
     text: &mut [u8; TEXT_LENGTH],
     bytes: &mut [u8; BYTES_LENGTH],
@@ -89,7 +90,7 @@ fn turn(
 // Runs the whole script. The turns are counted down from a number that no run uses up.
 pub fn run_all(
     held: &mut [u32; 24],
-    rows: &mut [u32; 384],
+    rows: &mut [u32; TABLE_LENGTH],
     input: &mut [u8; INPUT_LENGTH],
     text: &mut [u8; TEXT_LENGTH],
     bytes: &mut [u8; BYTES_LENGTH],

@@ -1,5 +1,6 @@
 // The calls of the decoder, over the numbers and the table that are lent.
 use in_place::Answer;
+use in_place::TABLE_LENGTH;
 use in_place::Telling;
 use script_said::Said;
 use script_text::read_call;
@@ -46,7 +47,7 @@ fn answered(answer: Answer) -> Said {
 // cannot be lent.
 fn feed(
     held: &mut [u32; 24],
-    rows: &mut [u32; 384],
+    rows: &mut [u32; TABLE_LENGTH],
     piece: &[u8],
     buffer: u32,
     payload: &mut [u8],
@@ -61,7 +62,7 @@ fn feed(
 // Makes the call that the line is.
 pub fn make_dec(
     held: &mut [u32; 24],
-    rows: &mut [u32; 384],
+    rows: &mut [u32; TABLE_LENGTH],
     line: &[u8],
     bytes: &mut [u8],
     payload: &mut [u8],

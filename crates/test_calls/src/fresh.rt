@@ -1,4 +1,5 @@
 // Encoders and decoders of which nothing is known but a chunk size.
+use in_place::TABLE_LENGTH;
 use in_place::make;
 use in_place::set_max_chunk_size;
 use serializer::ChunkSerializer;
@@ -13,7 +14,7 @@ pub fn encoder(size: u32) -> ChunkSerializer {
 }
 
 // Makes a decoder, in what is lent, for messages of at most `room` bytes in chunks of `size`.
-pub fn make_sized(held: &mut [u32; 24], rows: &mut [u32; 384], room: u32, size: u32) {
+pub fn make_sized(held: &mut [u32; 24], rows: &mut [u32; TABLE_LENGTH], room: u32, size: u32) {
     make(held, rows, room);
     set_max_chunk_size(held, size);
 }

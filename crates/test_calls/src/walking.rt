@@ -3,6 +3,7 @@
 use crate::pieces::Cut;
 use crate::used::used_of;
 use in_place::Answer;
+use in_place::TABLE_LENGTH;
 use in_place::Telling;
 use in_place::get_max_chunk_size;
 use in_place::next_message;
@@ -120,7 +121,7 @@ impl Walked {
 fn offer(
     so_far: Walk,
     held: &mut [u32; 24],
-    rows: &mut [u32; 384],
+    rows: &mut [u32; TABLE_LENGTH],
     input: &[u8],
     payload: &mut [u8],
 ) -> Walked {
@@ -137,7 +138,7 @@ fn offer(
 pub fn next_answer(
     so_far: Walk,
     held: &mut [u32; 24],
-    rows: &mut [u32; 384],
+    rows: &mut [u32; TABLE_LENGTH],
     input: &[u8],
     payload: &mut [u8],
 ) -> Walked {

@@ -3,6 +3,7 @@ use crate::first_bytes::print_first_bytes;
 use crate::kept::is_kept_one;
 use fields::number_at;
 use in_place::Answer;
+use in_place::TABLE_LENGTH;
 use in_place::Telling;
 use in_place::make;
 use in_place::set_max_chunk_size;
@@ -184,7 +185,7 @@ fn take_answer(
 fn turn(
     so_far: Decoding,
     held: &mut [u32; 24],
-    rows: &mut [u32; 384],
+    rows: &mut [u32; TABLE_LENGTH],
     wire: &[u8],
     places: &[u8],
     payload: &mut [u8],
@@ -203,7 +204,7 @@ fn turn(
 fn offer_all(
     start: Decoding,
     held: &mut [u32; 24],
-    rows: &mut [u32; 384],
+    rows: &mut [u32; TABLE_LENGTH],
     wire: &[u8],
     places: &[u8],
     payload: &mut [u8],
@@ -232,7 +233,7 @@ pub fn decode_all(
     sent: &mut [u8],
 ) -> End {
     let mut held = [0u32; 24];
-    let mut rows = [0u32; 384];
+    let mut rows = [0u32; TABLE_LENGTH];
     make(&mut held, &mut rows, ROOM);
     let start = Decoding::new(piece, is_told);
     let end = offer_all(start, &mut held, &mut rows, wire, places, payload, sent);

@@ -1,4 +1,4 @@
--- Six stores in a row are the row put at its place.
+-- The row is counted, and six stores in a row are the row put at its place.
 use Prim.Native.Nat.{suc, _+_, _*_}
 use mathlib.Core.Path.{_≡_}
 use native.Mathlib.Omega.{arith}
@@ -6,6 +6,9 @@ use borrow.Author.Needs.{needs}
 use Rattle.byte_machine.specs.Rows.{putRow}
 use Rattle.held.proofs.table.put_row.Statement.{statement}
 use Rattle.held.proofs.table.put_row.Tie as tie
+
+count-requires : tie.Need-count-requires
+count-requires c κs = search needs
 
 mul-at : tie.Need-mul-at
 mul-at c = search needs
@@ -64,18 +67,19 @@ element-write-rows-6 c = search needs
 returns : tie.Need-returns
 unfolding putRow
 returns c =
-    let at = 6 * c .args .i in
+    let at = 6 * c .before .before .args .i in
     let one : at + 1 ≡ suc at = omega arith in
     let two : at + 2 ≡ suc (suc at) = omega arith in
     let three : at + 3 ≡ suc (suc (suc at)) = omega arith in
     let four : at + 4 ≡ suc (suc (suc (suc at))) = omega arith in
     let five : at + 5 ≡ suc (suc (suc (suc (suc at)))) = omega arith in
-    rw (one, two, three, four, five)
+    rw (c .count .ensures, one, two, three, four, five)
 
 pub put-row-spec : {M : Type 1} → statement M
 put-row-spec =
     tie.close
     (tie.spec
+    count-requires
     mul-at
     mul-rows
     element-write-rows
