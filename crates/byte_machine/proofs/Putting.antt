@@ -77,7 +77,7 @@ module _ {rows ids : List ℕ} (l : Lists rows ids) where
   unfolding find
   find-from-first id n d =
       sym (last-shorter rowCount (used rows) (idAt rows) id rowCount (used-most rows) (λ j h k e. n (sym e ∙ after-used j h k)))
-      ∙ sym (either-way rowCount (idAt rows) id rowCount (omega arith) (λ i j h k e f. d i j (is-used i h e) (is-used j k f) (rw e n) (e ∙ sym f)))
+      ∙ sym (either-way rowCount (idAt rows) id rowCount (omega arith) (λ i j h k e f. d i j (is-used i h e) (is-used j k f) (e ∙ sym f)))
     where
       is-used : (i : ℕ) → i < rowCount → idAt rows i ≡ id → i < used rows
       is-used i less e = by-test (ltb i (used rows)) refl

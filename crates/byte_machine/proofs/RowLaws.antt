@@ -177,7 +177,7 @@ put-own rows p id e f h = rw (lt-ltb p (used rows) (rw e (find-used rows id (rw 
 
 -- no two rows that are used have one id
 abbrev pub Distinct : List ℕ → Type 0
-Distinct rows = (i j : ℕ) → i < used rows → j < used rows → idAt rows i ≢ 0 → idAt rows i ≡ idAt rows j → i ≡ j
+Distinct rows = (i j : ℕ) → i < used rows → j < used rows → idAt rows i ≡ idAt rows j → i ≡ j
 
 -- the row at a place is used, and by this id
 pub record Owns (rows : List ℕ) (place id : ℕ) : Type 0 where
@@ -200,7 +200,7 @@ find-distinct : {rows : List ℕ} {p id : ℕ} → Distinct rows → Owns rows p
 unfolding find
 find-distinct {rows} {p} {id} d o =
     last-is (used rows) (idAt rows) id rowCount p (o .inside) (o .own)
-    (λ j more k q. let same = d p j (o .inside) k (rw (o .own) (o .used)) (o .own ∙ sym q) in omega (arith, more, same))
+    (λ j more k q. let same = d p j (o .inside) k (o .own ∙ sym q) in omega (arith, more, same))
 
 -- no row that is used but the one at p has the id
 abbrev Alone : List ℕ → ℕ → ℕ → Type 0
@@ -208,7 +208,7 @@ Alone rows id p = (j : ℕ) → j < used rows → j ≢ p → idAt rows j ≢ id
 
 -- so it is where the row at p has it already, and where no row has it
 alone-there : {rows : List ℕ} {p id : ℕ} → Distinct rows → Owns rows p id → Alone rows id p
-alone-there {rows} {p} {id} d o j k m q = m (sym (d p j (o .inside) k (rw (o .own) (o .used)) (o .own ∙ sym q)))
+alone-there {rows} {p} {id} d o j k m q = m (sym (d p j (o .inside) k (o .own ∙ sym q)))
 
 alone-none : (rows : List ℕ) (id p : ℕ) → rowCount ≤ find rows id → Alone rows id p
 alone-none rows id p h j k m = find-none rows id j h k
@@ -252,7 +252,7 @@ module _ (rows : List ℕ) (p : ℕ) (r : Row) (l : length rows ≡ tableLength)
 
   -- ids that are distinct stay so
   distinct-put : p ≤ used rows → Distinct rows → Alone rows (r .id) p → Distinct rows′
-  distinct-put most d a i j f g n q = by-cases (eqb p i) (eqb p j) refl refl
+  distinct-put most d a i j f g q = by-cases (eqb p i) (eqb p j) refl refl
     where
       inside : (k : ℕ) → k < used rows′ → k < rowCount
       inside k less = omega (arith, less, used-most rows′)
@@ -272,7 +272,7 @@ module _ (rows : List ℕ) (p : ℕ) (r : Row) (l : length rows ≡ tableLength)
           let c = eqb-false p j y in
           let v = id-other rows p i r b (inside i f) in
           let w = id-other rows p j r c (inside j g) in
-          d i j (used-less most i f b) (used-less most j g c) (rw v at n) (sym v ∙ q ∙ w)
+          d i j (used-less most i f b) (used-less most j g c) (sym v ∙ q ∙ w)
 
   -- the row that is put is found at its place
   pub find-here : Distinct rows′ → r .id ≢ 0 → find rows′ (r .id) ≡ p
@@ -350,7 +350,7 @@ unfolding free
 free-empty = none-used
 
 pub distinct-empty : Distinct emptyTable
-distinct-empty i j h k n e = absurd (omega (arith, h, none-used))
+distinct-empty i j h k e = absurd (omega (arith, h, none-used))
 
 pub find-empty : (id : ℕ) → id ≢ 0 → ltb (find emptyTable id) rowCount ≡ false
 find-empty id n = by-test (ltb (find emptyTable id) rowCount) refl
