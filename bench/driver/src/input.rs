@@ -33,8 +33,62 @@ impl Input {
         input
     }
 
+    /// Messages on so many chunk streams, from 2 on: each is opened by a type 0, and then all go by type 3.
+    pub fn on_streams(width: usize, streams: usize, mix: Mix, count: usize) -> Input {
+        let all = streams + count;
+        let mut input = Input {
+            size: 4096,
+            width,
+            kinds: vec![9; all],
+            times: Vec::new(),
+            source: noise(width * all),
+            wire: Vec::new(),
+        };
+        for (i, payload) in input.source.chunks_exact(width).enumerate() {
+            if i < streams {
+                basic_header(&mut input.wire, 0, i);
+                input.wire.extend([0, 0, 0]);
+                input.wire.extend(&(width as u32).to_be_bytes()[1..]);
+                input.wire.extend([9, 1, 0, 0, 0]);
+            } else {
+                basic_header(&mut input.wire, 3, mix.stream(streams, i - streams));
+            }
+            input.wire.extend(payload);
+        }
+        input
+    }
+
     pub fn payload_bytes(&self) -> usize {
         self.source.len()
+    }
+}
+
+/// On which stream a message is, once all are opened.
+#[derive(Clone, Copy)]
+pub enum Mix {
+    /// Nine in ten on the stream opened last, the others in turn.
+    MostlyLast,
+    /// All on the stream opened first.
+    First,
+}
+
+impl Mix {
+    fn stream(self, streams: usize, i: usize) -> usize {
+        match self {
+            Mix::MostlyLast if i % 10 == 9 => i / 10 % (streams - 1),
+            Mix::MostlyLast => streams - 1,
+            Mix::First => 0,
+        }
+    }
+}
+
+/// Of the chunk stream with this place among those from 2 on.
+fn basic_header(wire: &mut Vec<u8>, kind: u8, stream: usize) {
+    let id = stream + 2;
+    if id < 64 {
+        wire.push(kind << 6 | id as u8);
+    } else {
+        wire.extend([kind << 6, (id - 64) as u8]);
     }
 }
 

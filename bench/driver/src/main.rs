@@ -57,6 +57,7 @@ fn order() -> Option<Order> {
 fn run(order: &Order) -> Result<(), String> {
     let ratios = main_table(order.effort)?;
     both_forms(order.effort)?;
+    searches(order.effort)?;
     println!("\nBoth sides agreed on every count and checksum.");
     if order.is_stored {
         return stored::write(&order.ratios, &order.machine, &ratios);
@@ -88,6 +89,15 @@ fn both_forms(effort: Effort) -> Result<(), String> {
         println!("{}", table::both_line(&row, &rows::measure_both(&row, effort)?));
     }
     println!("\nNanoseconds a message, decoded, of one stream in chunks of 4096.");
+    Ok(())
+}
+
+fn searches(effort: Effort) -> Result<(), String> {
+    println!("\n{}", table::SEARCH_HEAD);
+    for (streams, mix) in rows::searches() {
+        println!("{}", table::search_line(streams, mix, &rows::measure_search(streams, mix, effort)?));
+    }
+    println!("\nNanoseconds a message of 16 bytes, decoded whole.");
     Ok(())
 }
 

@@ -1,7 +1,7 @@
 //! The rows of the tables: what is measured, and what is wanted of it.
 
 use crate::clock::{best, Effort, Work};
-use crate::input::{Input, ROOM};
+use crate::input::{Input, Mix, ROOM};
 use crate::ours::Lent;
 use crate::tally::Tally;
 use crate::{original, ours};
@@ -197,4 +197,17 @@ pub fn measure_both(row: &Row, effort: Effort) -> Result<Vec<f64>, String> {
     ];
     let count = input.kinds.len() as f64;
     Ok(best(effort, &mut works).iter().map(|time| time / count).collect())
+}
+
+/// Small messages on many streams, where the search for a row counts: how many streams, and which.
+pub fn searches() -> [(usize, Mix); 4] {
+    [(5, Mix::MostlyLast), (64, Mix::MostlyLast), (5, Mix::First), (64, Mix::First)]
+}
+
+/// In place and by the original, in nanoseconds a message.
+pub fn measure_search(streams: usize, mix: Mix, effort: Effort) -> Result<Vec<f64>, String> {
+    let input = Input::on_streams(16, streams, mix, 4000);
+    let times = decode(&input, WHOLE, effort)?;
+    let count = input.kinds.len() as f64;
+    Ok(times.iter().take(2).map(|time| time / count).collect())
 }

@@ -1,5 +1,6 @@
 //! The printed lines, tables of Markdown.
 
+use crate::input::Mix;
 use crate::rows::{pieces, Job, Row, Times, Wanted};
 
 pub const HEAD: &str = "\
@@ -50,4 +51,16 @@ pub fn both_line(row: &Row, times: &[f64]) -> String {
     let Job::Decode(piece) = row.job else { return String::new() };
     let (piece, width) = (pieces(piece), row.width);
     format!("| {piece} | {width} | {:.1} | {:.1} | {:.1} |", times[0], times[1], times[2])
+}
+
+pub const SEARCH_HEAD: &str = "\
+| streams | messages | in place | original | original/in place |
+|---|---|---|---|---|";
+
+pub fn search_line(streams: usize, mix: Mix, times: &[f64]) -> String {
+    let on = match mix {
+        Mix::MostlyLast => "nine in ten on the stream opened last",
+        Mix::First => "all on the stream opened first",
+    };
+    format!("| {streams} | {on} | {:.1} | {:.1} | {:.2} |", times[0], times[1], times[1] / times[0])
 }
