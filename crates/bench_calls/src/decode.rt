@@ -1,9 +1,9 @@
 // A run of a decoder, in what is lent, over a whole input, piece by piece; what a call left unread is offered again.
-use crate::answers::counted;
-use crate::parts::after;
-use crate::parts::piece_end;
-use crate::tally::Tally;
-use crate::tally::tell;
+use bench_parts::Tally;
+use bench_parts::after;
+use bench_parts::counted;
+use bench_parts::piece_end;
+use bench_parts::tell;
 use in_place::TABLE_LENGTH;
 use in_place::next_message;
 use test_calls::make_sized;

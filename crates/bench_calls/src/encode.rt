@@ -1,8 +1,8 @@
 // A run of an encoder over a list of messages, each written at the start of the same output.
-use crate::parts::after;
-use crate::tally::Tally;
-use crate::tally::probe;
-use crate::tally::tell;
+use bench_parts::Tally;
+use bench_parts::after;
+use bench_parts::probe;
+use bench_parts::tell;
 use test_calls::count_of;
 use test_calls::encoder;
 use test_parts::part;

@@ -1,9 +1,10 @@
-// The same run by the calls that take a decoder by value and hand it back.
-use crate::answers::counted;
-use crate::parts::after;
-use crate::parts::piece_end;
-use crate::tally::Tally;
-use crate::tally::tell;
+// The decoder's run of bench_calls by the calls that take a decoder by value and hand it back. A library of its own, so that each form
+// is compiled as for a program that has it alone.
+use bench_parts::Tally;
+use bench_parts::after;
+use bench_parts::counted;
+use bench_parts::piece_end;
+use bench_parts::tell;
 use deserializer::ChunkDeserializer;
 use test_calls::used_of;
 use test_parts::part;

@@ -2,8 +2,8 @@
 use Prim.Native.Nat.{_≤_, _-_}
 use borrow.Author.Needs.{needs}
 use lib.ListN.{length}
-use Rattle.bench_calls.proofs.tally.probe.Statement.{statement}
-use Rattle.bench_calls.proofs.tally.probe.Tie as tie
+use Rattle.bench_parts.proofs.tally.probe.Statement.{statement}
+use Rattle.bench_parts.proofs.tally.probe.Tie as tie
 
 abbrev Inv-loop : tie.InvT-loop
 Inv-loop before bytes every sum₀ i₀ sum i = i ≤ length bytes

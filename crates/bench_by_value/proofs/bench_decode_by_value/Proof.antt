@@ -3,8 +3,8 @@ use Prim.Native.Nat.{_≤_, _-_}
 use mathlib.Core.Path.{_≡_}
 use borrow.Author.Needs.{needs}
 use lib.ListN.{length}
-use Rattle.bench_calls.proofs.by_value.bench_decode_by_value.Statement.{statement}
-use Rattle.bench_calls.proofs.by_value.bench_decode_by_value.Tie as tie
+use Rattle.bench_by_value.proofs.bench_decode_by_value.Statement.{statement}
+use Rattle.bench_by_value.proofs.bench_decode_by_value.Tie as tie
 
 abbrev Inv-loop : tie.InvT-loop
 Inv-loop room size input piece every payload₀ report state₀ tally₀ end₀ at₀ payload state tally end at = (at ≤ length input) × (length payload ≡ length payload₀)
