@@ -33,7 +33,7 @@ impl Input {
         input
     }
 
-    /// Messages on so many chunk streams, from 2 on: each is opened by a type 0, and then all go by type 3.
+    /// Messages on so many chunk streams: each is opened by a type 0, and then all go by type 3.
     pub fn on_streams(width: usize, streams: usize, mix: Mix, count: usize) -> Input {
         let all = streams + count;
         let mut input = Input {
@@ -46,12 +46,12 @@ impl Input {
         };
         for (i, payload) in input.source.chunks_exact(width).enumerate() {
             if i < streams {
-                basic_header(&mut input.wire, 0, i);
+                basic_header(&mut input.wire, 0, id_of(streams, i));
                 input.wire.extend([0, 0, 0]);
                 input.wire.extend(&(width as u32).to_be_bytes()[1..]);
                 input.wire.extend([9, 1, 0, 0, 0]);
             } else {
-                basic_header(&mut input.wire, 3, mix.stream(streams, i - streams));
+                basic_header(&mut input.wire, 3, id_of(streams, mix.stream(streams, i - streams)));
             }
             input.wire.extend(payload);
         }
@@ -82,9 +82,17 @@ impl Mix {
     }
 }
 
-/// Of the chunk stream with this place among those from 2 on.
-fn basic_header(wire: &mut Vec<u8>, kind: u8, stream: usize) {
-    let id = stream + 2;
+/// The chunk stream that is opened at this place: from 2 on, those of a longer basic header straight after the first.
+fn id_of(streams: usize, place: usize) -> usize {
+    let long = streams.saturating_sub(62);
+    match place {
+        0 => 2,
+        _ if place <= long => 63 + place,
+        _ => place + 2 - long,
+    }
+}
+
+fn basic_header(wire: &mut Vec<u8>, kind: u8, id: usize) {
     if id < 64 {
         wire.push(kind << 6 | id as u8);
     } else {
