@@ -13,11 +13,6 @@ use Rattle.chunk_header.specs.Basic.{csid}
 abbrev n : List ℕ → ℕ
 n bs = getD bs 0 0 % 64
 
-pub csid-none : (bs : List ℕ) → length bs < 1 → csid bs ≡ Incomplete
-unfolding csid
-csid-none [] h = refl
-csid-none (b ∷ bs) h = absurd (omega arith)
-
 pub csid-zero-short : (bs : List ℕ) → n bs ≡ 0 → length bs < 2 → csid bs ≡ Incomplete
 unfolding csid
 csid-zero-short [] e h = refl

@@ -9,7 +9,7 @@ use borrow.Author.Tests.{eqb-true, ltb-false}
 use Rattle.fields.specs.Cases.{_when_, first}
 use Rattle.fields.proofs.Tests.{never}
 use Rattle.chunk_header.specs.declared.ChunkHeaderFormat.{ChunkHeaderFormat}
-use Rattle.chunk_header.specs.declared.ChunkHeaderFormat.the-variants.{Full}
+use Rattle.chunk_header.specs.declared.ChunkHeaderFormat.the-variants.{Full, TimeDeltaWithoutMessageStreamId, TimeDeltaOnly, Empty}
 use Rattle.chunk_header.specs.Limits.{maxField}
 use Rattle.chunk_header.specs.Table.{isEmpty, isFull}
 use Rattle.chunk_meaning.specs.Stored.{Row}
@@ -113,3 +113,11 @@ later-length format message header number h f =
     by-cases true true v f e h = eqb-true _ _ e
     by-cases true false v f e h = absurd (omega arith)
     by-cases false u v f e h = never f
+
+-- with a row, a free one does not matter
+pub with-row : (f : ChunkHeaderFormat) (unused inside own : Bool) → basicRefusal f true true inside own ≡ basicRefusal f true unused inside own
+unfolding basicRefusal
+with-row Full unused inside own = refl
+with-row TimeDeltaWithoutMessageStreamId unused inside own = refl
+with-row TimeDeltaOnly unused inside own = refl
+with-row Empty unused inside own = refl

@@ -31,6 +31,7 @@ use Rattle.fields.proofs.Swapped.{little-take, swapped-small}
 use Rattle.decoding.proofs.ReadsBack.{basicOf, claiming, headOf, opened, settled}
 use Rattle.byte_machine.proofs.RowLaws.{find-tells}
 use Rattle.decoding.proofs.Runs.{then}
+use Rattle.chunk_meaning.proofs.Unrefused.{with-row}
 use Rattle.fields.proofs.Tests.{clash}
 
 -- one byte as a number
@@ -96,14 +97,6 @@ head-length Full bs = refl
 head-length TimeDeltaWithoutMessageStreamId bs = refl
 head-length TimeDeltaOnly bs = refl
 head-length Empty bs = refl
-
--- with a row, a free one does not matter
-with-row : (f : ChunkHeaderFormat) (unused inside own : Bool) → basicRefusal f true true inside own ≡ basicRefusal f true unused inside own
-unfolding basicRefusal
-with-row Full unused inside own = refl
-with-row TimeDeltaWithoutMessageStreamId unused inside own = refl
-with-row TimeDeltaOnly unused inside own = refl
-with-row Empty unused inside own = refl
 
 -- the chunk that begins with the input's first bytes, as far as its payload
 module _ (d : Decoder) (bs : List ℕ) (f : ChunkHeaderFormat) (place : ℕ) (w : Known d bs f place) (r h : Row) (row-is : r ≡ rowAt (d .rows) place)

@@ -1,6 +1,6 @@
 -- What a run does at its next byte, and over a stretch of payload: bytes one by one are one copy.
 use Prim.Native.Nat.{ℕ, suc, _+_, _-_, _≤_, _<_}
-use mathlib.Core.Path.{_≡_, refl, sym, ap, _∙_}
+use mathlib.Core.Path.{_≡_, refl, _∙_}
 use mathlib.Core.Logic.{_≢_}
 use mathlib.Core.Bool.{Bool, true, false, cond, not, _&&_}
 use mathlib.Core.List.{List, [], _∷_, _++_}
@@ -8,8 +8,8 @@ use native.Mathlib.Omega.{arith}
 use native.Mathlib.Nat.{not-suc-le-zero}
 use native.Mathlib.Numerals.{add-one}
 use lib.Dec.{eqb, leb, ltb}
-use lib.ListN.{length, take, drop, getD, set, length-take, length-drop, take-append-drop, drop-of-length-le}
-use lib.Seq.{sets, drop-drop, drop-cons}
+use lib.ListN.{length, take, drop, getD, set, drop-of-length-le}
+use lib.Seq.{sets, drop-cons}
 use borrow.Author.Tests.{eq-eqb, ne-eqb, eqb-false, le-leb, leb-true, lt-ltb, le-ltb}
 use Rattle.decoding.specs.Decoder.{Decoder}
 use Rattle.byte_machine.specs.Reader.{Reader, Stepped, inPayload, ended, go, paused, refuse}
@@ -107,18 +107,6 @@ bulk (x ∷ y ∷ xs) rest d payload n s h k r =
     ∙ bulk (y ∷ xs) rest (holding d (nearer (d .reader))) (set payload (d .reader .message .got) x) (n + 1) s (omega arith) (omega arith) (omega arith)
     ∙ held-forgotten d (nearer (d .reader)) (landed (nearer (d .reader)) (length (y ∷ xs))) _ _ rest (landed-not-refused (nearer (d .reader)) (length (y ∷ xs)))
     ∙ (rw (landed-next (d .reader) (length (y ∷ xs)), e, add-one))
-
--- the same at a place of the input
-pub bulk-at : (input : List ℕ) (at k : ℕ) (d : Decoder) (payload : List ℕ) → inPayload (d .reader .stage) ≡ true → 0 < k
-    → k ≤ d .reader .chunk .left → d .reader .message .got + d .reader .chunk .left ≤ d .setting .room → at + k ≤ length input
-    → run (drop at input) d payload at
-    ≡ then d (landed (d .reader) k) (sets payload (d .reader .message .got) (take k (drop at input))) (at + k) (drop (at + k) input)
-bulk-at input at k d payload s p l r w =
-    let xs : List ℕ = take k (drop at input) in
-    let e : length xs ≡ k = simp (length-take, length-drop) (omega arith) in
-    let f : drop at input ≡ xs ++ drop (at + k) input = sym ((rw (← drop-drop k at input)) ∙ take-append-drop k (drop at input)) in
-    ap (λ (l : List ℕ). run l d payload at) f
-    ∙ (rw e at (bulk xs (drop (at + k) input) d payload at s (omega arith) (omega arith) r))
 
 -- a byte at a place of the input
 pub byte-at : (input : List ℕ) (at : ℕ) → at < length input → drop at input ≡ getD input at 0 ∷ drop (at + 1) input

@@ -2,12 +2,8 @@
 use Prim.Native.Nat.{ℕ}
 use mathlib.Core.Path.{_≡_, refl}
 use mathlib.Core.Logic.{_≢_}
-use mathlib.Core.Bool.{Bool, true}
 use mathlib.Core.List.{List}
 use native.Mathlib.Omega.{arith}
-use Rattle.chunk_header.specs.declared.ChunkHeaderFormat.{ChunkHeaderFormat}
-use Rattle.chunk_header.specs.declared.ChunkHeaderFormat.the-variants.{Full, TimeDeltaWithoutMessageStreamId, TimeDeltaOnly, Empty}
-use Rattle.chunk_meaning.specs.Meaning.{basicRefusal}
 use Rattle.byte_machine.specs.Reader.{Event, Go, Chunk, Message, Refuse, Reader, Stepped}
 use Rattle.byte_machine.specs.Rows.{putAt}
 use Rattle.decoding.specs.Call.{after}
@@ -34,11 +30,3 @@ left-kept h rows r Go p q = record { event-is = refl; numbers = refl; table = re
 left-kept h rows r Chunk p q = record { event-is = refl; numbers = refl; table = refl }
 left-kept h rows r Message p q = record { event-is = refl; numbers = refl; table = refl }
 left-kept h rows r (Refuse k) p q = absurd (q refl)
-
--- of a stream that has a row it does not count whether one is free
-pub free-known : (f : ChunkHeaderFormat) (free inside own : Bool) → basicRefusal f true true inside own ≡ basicRefusal f true free inside own
-unfolding basicRefusal
-free-known Full free inside own = refl
-free-known TimeDeltaWithoutMessageStreamId free inside own = refl
-free-known TimeDeltaOnly free inside own = refl
-free-known Empty free inside own = refl

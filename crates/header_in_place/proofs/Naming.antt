@@ -21,7 +21,7 @@ use Rattle.held.specs.Done.{doneOf}
 use Rattle.held.specs.Numbers.{codeOf, formatFrom, readerFrom, settingIn, stageFrom}
 use Rattle.held.proofs.Formats.{from-again}
 use Rattle.header_in_place.specs.Byte.{bytesOf, keptOf}
-use Rattle.header_in_place.proofs.Keeping.{free-known}
+use Rattle.chunk_meaning.proofs.Unrefused.{with-row}
 use Rattle.byte_machine.specs.Setting.{Setting}
 use Rattle.byte_machine.specs.Look.{look, Look}
 
@@ -37,7 +37,7 @@ module _ (h : Held) (rows : List ℕ) (first id format place k : ℕ) (t : forma
     of-row =
         e
         ∙ ap (λ (f : ChunkHeaderFormat). basicRefusal f true true (not (eqb (h .id) 0)) (eqb (h .id) id)) same-format
-        ∙ free-known (formatOf first) (ltb (free rows) rowCount) (not (eqb (h .id) 0)) (eqb (h .id) id)
+        ∙ with-row (formatOf first) (ltb (free rows) rowCount) (not (eqb (h .id) 0)) (eqb (h .id) id)
         ∙ ap (λ (b : Bool). basicRefusal (formatOf first) b (ltb (free rows) rowCount) (not (eqb (h .id) 0)) (eqb (h .id) id)) (sym (lt-ltb place rowCount there))
 
     pub row-refused : k ≢ 0 → doneOf h (refuse (readerFrom h) k) ≡ doneOf h said

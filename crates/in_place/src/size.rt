@@ -6,13 +6,11 @@ ghost use Rattle.held.specs.Numbers.{again, decode, encode, heldIn, readerFrom}
 ghost use Rattle.in_place.specs.Answer.{LentSize, LentTold, Stands, sizeOf};
 use chunk_header::INITIAL_MAX_CHUNK_SIZE;
 use chunk_header::LARGEST_CHUNK_SIZE;
+use chunk_header::LARGEST_ROOM;
 use held::TABLE_LENGTH;
 use held::held_in;
 use held::numbers_of;
 use held::renew;
-
-// No message is longer.
-const LARGEST_ROOM: u32 = 16777215;
 
 // What making a decoder, or telling it a size, answers.
 pub enum Telling {
