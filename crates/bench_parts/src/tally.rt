@@ -1,6 +1,6 @@
 // What a run answers: counts, and a checksum that the original must reach too.
 
-#[derive(Drop)]
+#[derive(Clone, Copy)]
 pub struct Tally {
     pub messages: u64,
     pub calls: u64,

@@ -6,7 +6,7 @@ use script_text::read_call;
 use test_parts::part;
 
 // What a call answers, and the decoder after it.
-#[derive(Drop)]
+#[derive(Clone, Copy)]
 pub struct Made {
     pub decoder: ChunkDeserializer,
     pub said: Said,

@@ -1,4 +1,5 @@
 // The decoder by value: the script on standard input, of its calls alone, answered as `replay` answers it.
+#![tactic(auto)]
 mod calls;
 
 use crate::calls::make;
@@ -20,7 +21,7 @@ const TEXT_LENGTH: usize = 16384;
 const PAYLOAD_LENGTH: usize = 65536;
 
 // What is kept from line to line: the decoder, and how long the text of the answers is.
-#[derive(Drop)]
+#[derive(Clone, Copy)]
 struct Kept {
     decoder: ChunkDeserializer,
     filled: usize,

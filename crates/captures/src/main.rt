@@ -1,5 +1,6 @@
 // Four real chunk streams (data/), byte by byte and cut at random: every message that the decoder hands out, in the form of
 // the listings beside them. What it must write, the file `stdout`, is made from these listings alone (compare/stored).
+#![tactic(auto)]
 mod hash;
 mod sha256;
 mod walk;

@@ -1,7 +1,7 @@
 // SHA-256 (FIPS 180-4) of a payload of up to 65535 bytes, as the listings of the captures have it.
 
 // The eight words of the hash.
-#[derive(Drop)]
+#[derive(Clone, Copy)]
 pub struct Words {
     pub a: u32,
     pub b: u32,

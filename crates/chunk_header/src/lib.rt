@@ -1,4 +1,5 @@
 // What a chunk's header is made of (chunk_io/chunk_header.rs of rml_rtmp).
+#![tactic(auto)]
 ghost use Rattle.std.specs.Prelude.{◌≡◌};
 ghost use Rattle.chunk_header.specs.Header.{nothing};
 ghost use Rattle.chunk_header.specs.Table.{field_length, format_of, header_length, index_of, type_of};
@@ -6,7 +7,7 @@ ghost use Rattle.chunk_header.specs.Table.{field_length, format_of, header_lengt
 use time::RtmpTimestamp;
 
 // The four chunk types.
-#[derive(Drop)]
+#[derive(Clone, Copy)]
 pub enum ChunkHeaderFormat {
     Full,
     TimeDeltaWithoutMessageStreamId,
@@ -15,7 +16,7 @@ pub enum ChunkHeaderFormat {
 }
 
 // The fields of a message header, in their order.
-#[derive(Drop)]
+#[derive(Clone, Copy)]
 pub enum HeaderField {
     Timestamp,
     MessageLength,
@@ -24,7 +25,7 @@ pub enum HeaderField {
 }
 
 // What is remembered of a chunk stream; no stream has the id 0.
-#[derive(Drop)]
+#[derive(Clone, Copy)]
 pub struct ChunkHeader {
     pub chunk_stream_id: u32,
     pub timestamp: RtmpTimestamp,
@@ -37,7 +38,7 @@ pub struct ChunkHeader {
 }
 
 // A basic header, as far as it has come.
-#[derive(Drop)]
+#[derive(Clone, Copy)]
 pub enum Csid {
     Id(u32),
     Incomplete,

@@ -1,5 +1,6 @@
 // The decoder by value: its calls lend what it holds to the calls in place, and hand it back (chunk_io/deserializer.rs of
 // rml_rtmp).
+#![tactic(auto)]
 ghost use Rattle.std.specs.Prelude.{◌≡◌};
 ghost use Rattle.decoding.specs.Call.{next};
 ghost use Rattle.decoding.specs.Told.{made, told};
@@ -11,21 +12,21 @@ pub use in_place::{Answer, Telling};
 use in_place::{TABLE_LENGTH, get_max_chunk_size, make, next_message, set_max_chunk_size};
 
 // A decoder: the 24 numbers that it holds, and the table of rows.
-#[derive(Drop)]
+#[derive(Clone, Copy)]
 pub struct ChunkDeserializer {
     held: [u32; 24],
     rows: [u32; TABLE_LENGTH],
 }
 
 // What a call answers, and the decoder handed back beside it.
-#[derive(Drop)]
+#[derive(Clone, Copy)]
 pub struct Decoded {
     pub deserializer: ChunkDeserializer,
     pub answer: Answer,
 }
 
 // What making a decoder, or telling it a size, answers, and the decoder handed back beside it.
-#[derive(Drop)]
+#[derive(Clone, Copy)]
 pub struct Told {
     pub deserializer: ChunkDeserializer,
     pub telling: Telling,

@@ -1,6 +1,7 @@
 // What to drop of a queue of packets, so that the rest keeps within a limit of bytes: a planner that proposes, and a small check
 // that judges any proposal. A queue is the packets' lengths, oldest first, and their droppable marks; a proposal is the places to
 // keep, counted from 0.
+#![tactic(auto)]
 ghost use Rattle.std.specs.Prelude.{◌≡◌};
 ghost use Rattle.drop_plan.specs.Answer.{outcome_of, verdict_of};
 ghost use Rattle.drop_plan.specs.Check.{judged};
@@ -18,7 +19,7 @@ use crate::keep::{first_to_stay, keep_from, rest_length, without_places};
 pub const MOST: usize = 64;
 
 // What the check says of a proposal.
-#[derive(Drop)]
+#[derive(Clone, Copy)]
 pub enum Verdict {
     Accepted,
     // 20 to 24
@@ -26,7 +27,7 @@ pub enum Verdict {
 }
 
 // What the planner answers.
-#[derive(Drop)]
+#[derive(Clone, Copy)]
 pub enum Plan {
     // so many places, the first of those beside it
     Keep(usize),
@@ -37,7 +38,7 @@ pub enum Plan {
 }
 
 // The planner's answer with its places; those after them are 0.
-#[derive(Drop)]
+#[derive(Clone, Copy)]
 pub struct Proposal {
     pub plan: Plan,
     pub places: [u32; 64],

@@ -1,4 +1,5 @@
 // One message there and back, and a byte that is refused: a type 3 chunk of a stream that has no row.
+#![tactic(auto)]
 use deserializer::{Answer, ChunkDeserializer, Decoded};
 use libc::STDOUT_FILENO;
 use serializer::ChunkSerializer;

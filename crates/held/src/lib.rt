@@ -1,4 +1,5 @@
 // A decoder as numbers that a caller lends, and its table of rows.
+#![tactic(auto)]
 mod amounts;
 mod numbers;
 mod renewing;

@@ -8,7 +8,7 @@ ghost use Rattle.held.specs.Numbers.{format_from, held_in, numbers_of, reader_fr
 use chunk_header::ChunkHeaderFormat;
 
 // A row of the table.
-#[derive(Drop)]
+#[derive(Clone, Copy)]
 pub struct HeldRow {
     pub id: u32,
     pub time: u32,
@@ -19,7 +19,7 @@ pub struct HeldRow {
 }
 
 // A decoder without its table; specs/Numbers.antt says what each number stands for.
-#[derive(Drop)]
+#[derive(Clone, Copy)]
 pub struct Held {
     pub room: u32,
     pub size: u32,
@@ -37,7 +37,7 @@ pub struct Held {
 }
 
 // What a byte of a header does: the numbers after it, what it settled, the number of a refusal, and the place of a row.
-#[derive(Drop)]
+#[derive(Clone, Copy)]
 pub struct Done {
     pub held: Held,
     pub event: u32,

@@ -8,7 +8,7 @@ ghost use Rattle.in_place.specs.Answer.{answer_of};
 use held::held_in;
 use time::RtmpTimestamp;
 
-#[derive(Drop)]
+#[derive(Clone, Copy)]
 pub enum Answer {
     // its payload is the first `length` bytes of the payload buffer
     Message {

@@ -13,7 +13,7 @@ use held::{
 };
 
 // How much of the message has come, and the place in the input.
-#[derive(Drop)]
+#[derive(Clone, Copy)]
 pub struct Gone {
     pub got: u32,
     pub at: usize,

@@ -9,7 +9,7 @@ use fields::{least, put_bytes};
 use held::{Done, Held, TABLE_LENGTH, held_in, numbers_of, put_at, wide};
 
 // What a turn settled, and how many bytes it used.
-#[derive(Drop)]
+#[derive(Clone, Copy)]
 pub struct Moved {
     pub event: u32,
     pub used: usize,

@@ -8,7 +8,7 @@ use chunk_header::{INITIAL_MAX_CHUNK_SIZE, LARGEST_CHUNK_SIZE, LARGEST_ROOM};
 use held::{TABLE_LENGTH, held_in, numbers_of, renew};
 
 // What making a decoder, or telling it a size, answers.
-#[derive(Drop)]
+#[derive(Clone, Copy)]
 pub enum Telling {
     Taken,
     Refused(u32),

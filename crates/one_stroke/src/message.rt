@@ -120,7 +120,7 @@ fn is_unfit(header: HeldRow, room: u32, size: u32, rest: usize) -> bool
 
 // What is seen of such a chunk: where its payload starts (0: it is none), its type, the place of its row, that row, and the
 // header with the message's time.
-#[derive(Drop)]
+#[derive(Clone, Copy)]
 pub struct Seen {
     pub start: usize,
     pub format: u32,

@@ -1,5 +1,6 @@
 // The bodies of protocol control messages (messages/types/set_chunk_size.rs, abort.rs, acknowledgement.rs,
 // window_acknowledgement_size.rs and set_peer_bandwidth.rs of rml_rtmp).
+#![tactic(auto)]
 ghost use Rattle.std.specs.Prelude.{◌≡◌};
 ghost use Rattle.fields.specs.Writing.{outcome};
 ghost use Rattle.protocol_control.specs.Answer.{read_answer, write_answer};
@@ -15,7 +16,7 @@ use crate::length::{body_length, kind_of};
 use crate::limits::is_outside;
 
 // One case for each body, with exactly its numbers.
-#[derive(Drop)]
+#[derive(Clone, Copy)]
 pub enum ProtocolControl {
     SetChunkSize { size: u32 },
     Abort { stream_id: u32 },
@@ -26,7 +27,7 @@ pub enum ProtocolControl {
 }
 
 // Which of them a body is, as its message's type says.
-#[derive(Drop)]
+#[derive(Clone, Copy)]
 pub enum Kind {
     SetChunkSize,
     Abort,
@@ -36,7 +37,7 @@ pub enum Kind {
 }
 
 // What reading a body answers.
-#[derive(Drop)]
+#[derive(Clone, Copy)]
 pub enum Deserialized {
     Control(ProtocolControl),
     // refusal 15
@@ -46,7 +47,7 @@ pub enum Deserialized {
 }
 
 // What writing a body answers.
-#[derive(Drop)]
+#[derive(Clone, Copy)]
 pub enum Serialized {
     // so many bytes, the output's first
     Written(usize),

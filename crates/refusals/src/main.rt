@@ -1,4 +1,5 @@
 // Runs the script on standard input: every refusal that the codec gives.
+#![tactic(auto)]
 fn main() {
     script::run();
 }

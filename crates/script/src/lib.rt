@@ -1,4 +1,5 @@
 // Runs a script of the codec's calls: one call a line on standard input, one answer a line on
+#![tactic(auto)]
 use in_place::TABLE_LENGTH;
 // standard output.
 mod calls;

@@ -8,7 +8,7 @@ use serializer::ChunkSerializer;
 use test_parts::part;
 
 // What is kept from turn to turn: how far the run is, and the encoder beside it.
-#[derive(Drop)]
+#[derive(Clone, Copy)]
 struct Kept {
     state: State,
     encoder: ChunkSerializer,

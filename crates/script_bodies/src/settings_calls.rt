@@ -5,7 +5,7 @@ use settings::{Reading, Settings, Version, Writing};
 use test_parts::part;
 
 // What a number says that is to be a version.
-#[derive(Drop)]
+#[derive(Clone, Copy)]
 enum Named {
     As(Version),
     Unnamed,

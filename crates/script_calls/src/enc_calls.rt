@@ -8,14 +8,14 @@ use test_parts::part;
 use time::RtmpTimestamp;
 
 // What becomes of a call, and the encoder after it.
-#[derive(Drop)]
+#[derive(Clone, Copy)]
 pub struct Made {
     pub encoder: ChunkSerializer,
     pub said: Said,
 }
 
 // A message, its payload aside.
-#[derive(Drop)]
+#[derive(Clone, Copy)]
 struct Message {
     type_id: u8,
     stream_id: u32,

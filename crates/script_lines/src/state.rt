@@ -1,5 +1,5 @@
 // How far a run is.
-#[derive(Drop)]
+#[derive(Clone, Copy)]
 pub struct State {
     // how many lines were taken
     pub lines: u64,

@@ -2,7 +2,7 @@
 use fields::{number_at, put_number};
 
 // What bytes say that are to be records of the same length.
-#[derive(Drop)]
+#[derive(Clone, Copy)]
 pub enum Count {
     // how many
     Of(usize),

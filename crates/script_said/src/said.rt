@@ -8,7 +8,7 @@ use test_parts::part;
 const MOST: usize = 5;
 
 // An answer: a word, then numbers, then bytes.
-#[derive(Drop)]
+#[derive(Clone, Copy)]
 pub struct Said {
     // whether the line is no call
     pub is_bad: bool,

@@ -11,7 +11,7 @@ use test_parts::part;
 const MOST: usize = 6;
 
 // What a line says.
-#[derive(Drop)]
+#[derive(Clone, Copy)]
 pub struct Call {
     // the place of its form in the list, counted from 0
     pub form: usize,

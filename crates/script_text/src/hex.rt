@@ -3,7 +3,7 @@ use crate::numbers::digit_value;
 use check::same;
 
 // What a word says that is to be bytes in hex.
-#[derive(Drop)]
+#[derive(Clone, Copy)]
 pub enum Hex {
     // how many bytes
     Bytes(usize),

@@ -1,14 +1,14 @@
 // Numbers and digits in words.
 
 // What a word says that is to be a number.
-#[derive(Drop)]
+#[derive(Clone, Copy)]
 pub enum Number {
     Value(u32),
     Bad,
 }
 
 // What a word says that is to be a number of 64 bits.
-#[derive(Drop)]
+#[derive(Clone, Copy)]
 pub enum Long {
     Value(u64),
     Bad,

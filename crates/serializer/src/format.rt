@@ -9,7 +9,7 @@ use chunk_header::{ChunkHeader, ChunkHeaderFormat};
 use time::RtmpTimestamp;
 
 // A message, its payload aside.
-#[derive(Drop)]
+#[derive(Clone, Copy)]
 pub struct Message {
     pub type_id: u8,
     pub stream_id: u32,
@@ -20,7 +20,7 @@ pub struct Message {
 }
 
 // The first chunk of a message: its format, and the header that is written and remembered.
-#[derive(Drop)]
+#[derive(Clone, Copy)]
 pub struct FirstChunk {
     pub format: ChunkHeaderFormat,
     pub header: ChunkHeader,

@@ -1,4 +1,5 @@
 // The encoder: messages in, chunks out (chunk_io/serializer.rs of rml_rtmp).
+#![tactic(auto)]
 ghost use Rattle.std.specs.Prelude.{◌≡◌, length, ◌<◌, ◌≤◌};
 ghost use Rattle.serializer.specs.Answer.{answer_of};
 ghost use Rattle.serializer.specs.Message.{message as Message·message};
@@ -21,7 +22,7 @@ use time::RtmpTimestamp;
 const MAX_MESSAGE_LENGTH: usize = 16777215;
 
 // Rows 0 to 4 are those of chunk streams 2 to 6.
-#[derive(Drop)]
+#[derive(Clone, Copy)]
 pub struct ChunkSerializer {
     previous_headers: [ChunkHeader; 5],
     max_chunk_size: u32,
@@ -30,7 +31,7 @@ pub struct ChunkSerializer {
 }
 
 // What became of a message.
-#[derive(Drop)]
+#[derive(Clone, Copy)]
 pub enum Packet {
     // so many bytes, the output's first
     Written(usize),
@@ -47,7 +48,7 @@ pub enum Packet {
 }
 
 // A packet, and the encoder handed back beside it.
-#[derive(Drop)]
+#[derive(Clone, Copy)]
 pub struct Serialized {
     pub serializer: ChunkSerializer,
     pub packet: Packet,

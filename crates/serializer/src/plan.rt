@@ -8,7 +8,7 @@ use crate::format::{FirstChunk, Message, first_chunk, later_format};
 use crate::length::packet_bytes;
 use chunk_header::{ChunkHeader, ChunkHeaderFormat};
 
-#[derive(Drop)]
+#[derive(Clone, Copy)]
 pub struct Plan {
     pub first: FirstChunk,
     pub later: ChunkHeaderFormat,

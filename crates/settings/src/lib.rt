@@ -1,4 +1,5 @@
 // The settings of a bank, stored as records: a length of what follows, a version, then fields.
+#![tactic(auto)]
 ghost use Rattle.std.specs.Prelude.{◌≡◌};
 ghost use Rattle.fields.specs.Writing.{outcome};
 ghost use Rattle.settings.specs.Answer.{read_answer, write_answer};
@@ -15,14 +16,14 @@ use crate::limits::{can_hold, is_outside};
 use crate::parts::{is_short, length_in, settings_in, version_in};
 
 // The versions of a record.
-#[derive(Drop)]
+#[derive(Clone, Copy)]
 pub enum Version {
     One,
     Two,
 }
 
 // What a bank is set to.
-#[derive(Drop)]
+#[derive(Clone, Copy)]
 pub struct Settings {
     pub max_chunk_size: u32,
     pub room: u32,
@@ -31,7 +32,7 @@ pub struct Settings {
 }
 
 // What reading a record answers.
-#[derive(Drop)]
+#[derive(Clone, Copy)]
 pub enum Reading {
     // the settings, and how many bytes their record has
     Read { settings: Settings, used: usize },
@@ -46,7 +47,7 @@ pub enum Reading {
 }
 
 // What writing a record answers.
-#[derive(Drop)]
+#[derive(Clone, Copy)]
 pub enum Writing {
     // so many bytes, the output's first
     Written(usize),

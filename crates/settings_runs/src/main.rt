@@ -1,4 +1,5 @@
 // Runs the script on standard input: records of settings, read and written.
+#![tactic(auto)]
 fn main() {
     script::run();
 }

@@ -1,4 +1,5 @@
 // What is refused of a header over numbers that a caller lends, and what it settles when it is whole.
+#![tactic(auto)]
 mod refusals;
 mod settle;
 

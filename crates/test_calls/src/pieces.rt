@@ -21,7 +21,7 @@ fn wide(number: u32) -> usize {
 }
 
 // The lengths of the pieces, one after the other.
-#[derive(Drop)]
+#[derive(Clone, Copy)]
 pub struct Cut {
     is_random: bool,
     // the one length, where they are not random

@@ -8,7 +8,7 @@ use in_place::{
 use test_parts::part;
 
 // How far it is.
-#[derive(Drop)]
+#[derive(Clone, Copy)]
 pub struct Walk {
     cut: Cut,
     // how many bytes are used, and where the piece ends that they are in
@@ -21,7 +21,7 @@ pub struct Walk {
 }
 
 // A walk up to an answer.
-#[derive(Drop)]
+#[derive(Clone, Copy)]
 pub struct Walked {
     pub walk: Walk,
     pub answer: Answer,

@@ -1,4 +1,5 @@
 // What test tools need that know no codec: parts of bytes, and lines on standard output.
+#![tactic(auto)]
 mod lines;
 mod parts;
 

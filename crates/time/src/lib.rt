@@ -1,4 +1,5 @@
 // The clock: 32-bit milliseconds that wrap (time.rs of rml_rtmp).
+#![tactic(auto)]
 ghost use Rattle.std.specs.Prelude.{◌≡◌};
 ghost use Rattle.time.specs.Clock.{sum, difference};
 ghost use Rattle.time.specs.Distance.{distance};
@@ -8,14 +9,14 @@ mod distance;
 use crate::distance::distance_of;
 
 // A count of milliseconds from an unknown epoch.
-#[derive(Drop)]
+#[derive(Clone, Copy)]
 pub struct RtmpTimestamp {
     pub value: u32,
 }
 
 // What `compare` answers: how far the other timestamp is from this one, positive where the other is later; and this one handed
 // back.
-#[derive(Drop)]
+#[derive(Clone, Copy)]
 pub struct Compared {
     pub distance: i64,
     pub timestamp: RtmpTimestamp,

@@ -3,7 +3,7 @@ use crate::decode::{End, decode_all};
 use test_parts::{part, print, print_numbered};
 
 // What came of the longest beginning so far.
-#[derive(Drop)]
+#[derive(Clone, Copy)]
 pub struct Broken {
     // how many messages
     pub count: usize,

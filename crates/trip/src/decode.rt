@@ -7,7 +7,7 @@ use test_calls::{Cut, Walk, may_tell, next_answer};
 use test_parts::{part, print, print_line, print_numbered};
 
 // How far the pieces are.
-#[derive(Drop)]
+#[derive(Clone, Copy)]
 struct Decoding {
     walk: Walk,
     // how many messages were handed out
@@ -17,7 +17,7 @@ struct Decoding {
 }
 
 // Where a way in ended.
-#[derive(Drop)]
+#[derive(Clone, Copy)]
 pub struct End {
     pub count: usize,
     pub used: usize,
@@ -28,7 +28,7 @@ pub struct End {
 }
 
 // What came of a way in.
-#[derive(Drop)]
+#[derive(Clone, Copy)]
 pub struct Arrived {
     pub count: usize,
     pub used: usize,

@@ -7,7 +7,7 @@ use test_parts::{part, print, print_numbered};
 use time::RtmpTimestamp;
 
 // How far the calls are.
-#[derive(Drop)]
+#[derive(Clone, Copy)]
 pub struct Encoded {
     pub encoder: ChunkSerializer,
     // how many packets are kept, and how many bytes they have

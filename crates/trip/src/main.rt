@@ -1,5 +1,6 @@
 // A trip: calls of an encoder, of which some are refused and some packets are left out; the other packets cut into pieces, and
 // offered to a decoder; and what comes out beside what was kept. Then the line breaks, after each number of bytes.
+#![tactic(auto)]
 mod breaking;
 mod decode;
 mod encode;

@@ -1,7 +1,7 @@
 // The calls of the trip, in their order.
 
 // A call of the encoder, and what is to become of it.
-#[derive(Drop)]
+#[derive(Clone, Copy)]
 pub struct Call {
     pub type_id: u8,
     pub stream_id: u32,

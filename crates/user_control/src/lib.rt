@@ -1,4 +1,5 @@
 // The bodies of user control messages (messages/types/user_control.rs of rml_rtmp).
+#![tactic(auto)]
 ghost use Rattle.std.specs.Prelude.{◌≡◌};
 ghost use Rattle.fields.specs.Writing.{outcome, writing};
 ghost use Rattle.user_control.specs.Answer.{read_answer, write_answer};
@@ -14,7 +15,7 @@ use fields::number_at;
 use time::RtmpTimestamp;
 
 // One case for each event, with exactly its numbers.
-#[derive(Drop)]
+#[derive(Clone, Copy)]
 pub enum UserControlEvent {
     StreamBegin { stream_id: u32 },
     StreamEof { stream_id: u32 },
@@ -28,7 +29,7 @@ pub enum UserControlEvent {
 }
 
 // What reading a body answers.
-#[derive(Drop)]
+#[derive(Clone, Copy)]
 pub enum Deserialized {
     Event(UserControlEvent),
     // refusal 15
@@ -38,7 +39,7 @@ pub enum Deserialized {
 }
 
 // What writing a body answers.
-#[derive(Drop)]
+#[derive(Clone, Copy)]
 pub enum Serialized {
     // so many bytes, the output's first
     Written(usize),

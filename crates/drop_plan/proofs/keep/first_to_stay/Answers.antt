@@ -1,0 +1,51 @@
+use Prim.Native.Nat.{◌-◌, ◌≤◌, ◌<◌}
+use mathlib.Core.Bool.{Bool, false, cond}
+use mathlib.Core.Path.{◌≡◌, sym, ap, ◌∙◌}
+use native.Mathlib.Omega.{arith}
+use borrow.Author.Tests.{le-leb, lt-leb}
+use lib.ListN.{length, get_or}
+use Rattle.drop_plan.specs.Plan.{rest}
+use Rattle.drop_plan.specs.Queue.{queue, total}
+use Rattle.drop_plan.proofs.Rest.{rest_next, until_next, until_none}
+use Rattle.drop_plan.proofs.keep.first_to_stay.Goals as goal
+
+-- the length that goes, by the packet's mark
+going : (j : tie.After-length-if invariant-loop decreases-loop)
+    → let l = j.before.before.before.before in
+    let a = l.before.before.before.before.args in
+    j.length-if.result ≡ cond (get_or a.droppable.now l.loop.start false) (get_or a.lengths.now l.loop.start 0) 0
+going j =
+    let l = j.before.before.before.before in
+    let a = l.before.before.before.before.args in
+    j.length-if.ensures.0 ∙ ap (λ (b : Bool). cond b (get_or a.lengths.now l.loop.start 0) 0) j.before.is-droppable.ensures
+
+pub loop-start-init : goal.loop-start-init
+loop-start-init c =
+    let a = c.args in
+    let e : length a.lengths.now - 0 ≡ length a.lengths.now = omega arith in
+    (omega arith, c.rest_length-left.ensures, rw e)
+
+pub returns-then-left-limit : goal.returns-then-left-limit
+returns-then-left-limit c =
+    let a = c.args in
+    let q = queue a.lengths.now a.droppable.now in
+    let fits : total a.lengths.now (rest q c.loop-start.start) ≤ a.limit = omega (arith, c.if-left-limit.true, c.loop-start.invariant.1) in
+    sym (c.loop-start.invariant.2 ∙ until_next q a.limit c.loop-start.start (length a.lengths.now) (omega arith) ∙ simp (le-leb _ _ fits))
+
+pub overflow_sub-left : goal.overflow_sub-left
+overflow_sub-left c =
+    let a = c.args in
+    omega (arith, going c, rest_next (queue a.lengths.now a.droppable.now) c.loop-start.start (omega arith))
+
+pub loop-start-preserved : goal.loop-start-preserved
+loop-start-preserved c =
+    let a = c.args in
+    let q = queue a.lengths.now a.droppable.now in
+    let over : a.limit < total a.lengths.now (rest q c.loop-start.start) = omega (arith, c.if-left-limit.false, c.loop-start.invariant.1) in
+    let less = rest_next q c.loop-start.start (omega arith) in
+    (omega arith, omega (arith, going c), c.loop-start.invariant.2 ∙ until_next q a.limit c.loop-start.start (length a.lengths.now) (omega arith) ∙ simp (lt-leb _ _ over))
+
+pub returns : goal.returns
+returns c =
+    let a = c.args in
+    sym (c.loop-start.invariant.2 ∙ until_none (queue a.lengths.now a.droppable.now) a.limit c.loop-start.start (length a.lengths.now) (omega arith))

@@ -1,0 +1,16 @@
+-- What the numbers mean, in the numbers that stand for it.
+use mathlib.Core.Path.{ap, ◌∙◌}
+use lib.ListN.{get_or}
+use Rattle.held.specs.declared.numbers.Held.{Held}
+use Rattle.held.specs.Numbers.{held_of, numbers_of, reader_from, setting_in}
+use Rattle.held.proofs.Formats.{type_small}
+use Rattle.held.proofs.renewing.renew.Goals as goal
+
+pub shut-requires : goal.shut-requires
+shut-requires c = rw c.held_in-h.ensures (type_small (get_or c.args.held.now 6 0))
+
+pub returns : goal.returns
+returns c =
+    c.numbers_of-numbers.ensures
+    ∙ ap (λ (x : Held). numbers_of x) c.shut.ensures
+    ∙ ap (λ (x : Held). numbers_of (held_of (setting_in x) x.closed (reader_from x))) c.held_in-h.ensures

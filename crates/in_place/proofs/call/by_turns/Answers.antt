@@ -1,0 +1,50 @@
+-- What is answered at once leaves the decoder, in the numbers that stand for it; else the run.
+use Prim.Native.Nat.{◌≤◌}
+use mathlib.Core.Path.{sym, ap, subst, ◌∙◌}
+use native.Mathlib.Omega.{arith}
+use lib.ListN.{get_or, length}
+use Rattle.decoding.specs.Answer.{Listed, more}
+use Rattle.decoding.specs.Call.{Outcome, next, outcome}
+use Rattle.decoding.proofs.Runs.{next_closed, next_runs, next_short, run_end}
+use Rattle.held.specs.Numbers.{decode}
+use Rattle.one_stroke.specs.Lent.{Lent}
+use Rattle.in_place.specs.Answer.{answer_of}
+use Rattle.in_place.proofs.Stepping.{lent}
+use Rattle.in_place.proofs.call.by_turns.Goals as goal
+
+pub returns-then-closed-ne0 : goal.returns-then-closed-ne0
+returns-then-closed-ne0 c =
+    let a = c.args in
+    let d = decode a.held.now a.rows.now in
+    lent (next d a.input.now a.payload.now) (answer_of c.refused.result) a.held.now a.rows.now a.payload.now c.renew.new.0
+    (next_closed d a.input.now a.payload.now c.if-closed-ne0.true ∙ ap (λ (x : Listed). outcome x d a.payload.now) (sym c.refused.ensures))
+    c.renew.ensures
+
+pub returns-then-payload-wide : goal.returns-then-payload-wide
+returns-then-payload-wide c =
+    let a = c.args in
+    let d = decode a.held.now a.rows.now in
+    lent (next d a.input.now a.payload.now) (answer_of c.refused-then-payload-wide.result) a.held.now a.rows.now a.payload.now c.renew-then-payload-wide.new.0
+    (next_short d a.input.now a.payload.now c.if-closed-ne0.false (omega (arith, c.if-payload-wide.true, c.wide.ensures))
+    ∙ ap (λ (x : Listed). outcome x d a.payload.now) (sym c.refused-then-payload-wide.ensures))
+    c.renew-then-payload-wide.ensures
+
+pub returns-then-input-eq0 : goal.returns-then-input-eq0
+returns-then-input-eq0 c =
+    let a = c.args in
+    let d = decode a.held.now a.rows.now in
+    let room : get_or a.held.now 0 0 ≤ length a.payload.now = omega (arith, c.if-payload-wide.false, c.wide.ensures) in
+    lent (next d a.input.now a.payload.now) (more 0) a.held.now a.rows.now a.payload.now c.renew-then-input-eq0.new.0
+    (next_runs d a.input.now a.payload.now c.if-closed-ne0.false room
+    ∙ run_end d a.input.now a.payload.now 0 0 (omega (arith, c.if-input-eq0.true)))
+    c.renew-then-input-eq0.ensures
+
+pub returns : goal.returns
+returns c =
+    let a = c.args in
+    let d = decode a.held.now a.rows.now in
+    let t = c.turns in
+    let room : get_or a.held.now 0 0 ≤ length a.payload.now = omega (arith, c.if-payload-wide.false, c.wide.ensures) in
+    subst (λ (o : Outcome). Lent (answer_of t.result) t.new.0 t.new.1.0 t.new.1.1.1.0 o)
+    (sym (next_runs d a.input.now a.payload.now c.if-closed-ne0.false room))
+    t.ensures

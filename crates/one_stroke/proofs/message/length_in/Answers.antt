@@ -1,0 +1,8 @@
+-- A number of three bytes needs no wrapping.
+use Rattle.fields.proofs.Lists.{part_fits}
+use native.Mathlib.Omega.{arith}
+use mathlib.Core.Path.{◌∙◌}
+use Rattle.one_stroke.proofs.message.length_in.Goals as goal
+
+pub returns : goal.returns
+returns c = c.number_at.ensures ∙ part_fits c.args.input.now (λ i. omega (arith, c.shared_slice_known-1.given i)) 4 3 (omega arith)

@@ -1,0 +1,9 @@
+-- A number of four bytes needs no wrapping.
+use Rattle.fields.specs.Endian.{swapped}
+use Rattle.fields.proofs.Lists.{part_fits}
+use native.Mathlib.Omega.{arith}
+use mathlib.Core.Path.{ap, ◌∙◌}
+use Rattle.one_stroke.proofs.message.stream_in.Goals as goal
+
+pub returns : goal.returns
+returns c = c.swap_bytes.ensures ∙ ap swapped (c.number_at.ensures ∙ part_fits c.args.input.now (λ i. omega (arith, c.shared_slice_known-1.given i)) 8 4 (omega arith))
