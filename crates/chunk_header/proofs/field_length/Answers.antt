@@ -11,22 +11,26 @@ use Rattle.chunk_header.proofs.field_length.Goals as goal
 entry : ℕ → ℕ
 entry k = field_length (k / 4) (k % 4)
 
-below : (c : tie.After-field-index) → c.before.chunk-type.result * 4 + c.field-index.result < 16
-below c =
-    let a = c.before.before.args in
-    omega (arith, c.before.chunk-type.ensures, c.field-index.ensures, type_lt a.format, index_lt a.field)
-
 pub overflow_mul-at : goal.overflow_mul-at
 overflow_mul-at c = omega (arith, c.chunk_type.ensures, type_lt c.args.format)
 
 pub overflow_add-at : goal.overflow_add-at
-overflow_add-at c = omega (arith, below c)
+overflow_add-at c =
+    let below : c.chunk_type.result * 4 + c.field_index.result < 16 = (let a = c.args in
+    omega (arith, c.chunk_type.ensures, c.field_index.ensures, type_lt a.format, index_lt a.field)) in
+    omega (arith, below)
 
 pub offset_bounds-at : goal.offset_bounds-at
-offset_bounds-at c = omega (arith, below c)
+offset_bounds-at c =
+    let below : c.chunk_type.result * 4 + c.field_index.result < 16 = (let a = c.args in
+    omega (arith, c.chunk_type.ensures, c.field_index.ensures, type_lt a.format, index_lt a.field)) in
+    omega (arith, below)
 
 pub bounds-at : goal.bounds-at
-bounds-at c = omega (arith, below c)
+bounds-at c =
+    let below : c.chunk_type.result * 4 + c.field_index.result < 16 = (let a = c.args in
+    omega (arith, c.chunk_type.ensures, c.field_index.ensures, type_lt a.format, index_lt a.field)) in
+    omega (arith, below)
 
 pub returns : goal.returns
 unfolding field_length entry

@@ -13,29 +13,29 @@ use Rattle.protocol_control.proofs.Lengths.{length_body}
 use Rattle.protocol_control.proofs.Ways.{puts_none, puts}
 use Rattle.protocol_control.proofs.serialize.Goals as goal
 
--- the body and the output, where it is known how long the body is
-abbrev said : tie.After-body-length → ProtocolControl
-said b = b.before.before.before.before.before.args.control
-
-abbrev lent : tie.After-body-length → List ℕ
-lent b = b.before.before.before.before.before.args.output.now
-
-needed : (b : tie.After-body-length) → b.body-length.result ≡ length (body (said b))
-needed b = b.body-length.ensures ∙ ap body_length b.before.kind-of.ensures ∙ length_body (said b)
-
-inside : (b : tie.After-body-length) → outside (said b) ≡ false
-inside b = sym b.before.before.before.is-outside.ensures ∙ b.before.before.if1.false
-
 pub returns-then-is_outside : goal.returns-then-is_outside
 returns-then-is_outside c =
     let a = c.args in
     puts_none a.control a.output.now (sym c.is_outside.ensures ∙ c.if-is_outside.true)
 
 pub returns-then-output-needed : goal.returns-then-output-needed
-returns-then-output-needed c = writes_none (body (said c)) (lent c) (omega (arith, needed c)) ∙ puts (said c) (lent c) (inside c)
+returns-then-output-needed c =
+    let said : ProtocolControl = c.args.control in
+    let lent : List ℕ = c.args.output.now in
+    let needed : c.body_length-needed.result ≡ length (body (said)) = c.body_length-needed.ensures ∙ ap body_length c.kind_of.ensures ∙ length_body (said) in
+    let inside : outside (said) ≡ false = sym c.is_outside.ensures ∙ c.if-is_outside.false in
+    writes_none (body (said)) (lent) (omega (arith, needed)) ∙ puts (said) (lent) (inside)
 
 pub put_body-requires : goal.put_body-requires
-put_body-requires c = omega (arith, needed c)
+put_body-requires c =
+    let said : ProtocolControl = c.args.control in
+    let needed : c.body_length-needed.result ≡ length (body (said)) = c.body_length-needed.ensures ∙ ap body_length c.kind_of.ensures ∙ length_body (said) in
+    omega (arith, needed)
 
 pub returns : goal.returns
-returns c = writes_all (body (said c)) (lent c) (omega (arith, needed c)) (needed c) c.put_body.ensures ∙ puts (said c) (lent c) (inside c)
+returns c =
+    let said : ProtocolControl = c.args.control in
+    let lent : List ℕ = c.args.output.now in
+    let needed : c.body_length-needed.result ≡ length (body (said)) = c.body_length-needed.ensures ∙ ap body_length c.kind_of.ensures ∙ length_body (said) in
+    let inside : outside (said) ≡ false = sym c.is_outside.ensures ∙ c.if-is_outside.false in
+    writes_all (body (said)) (lent) (omega (arith, needed)) (needed) c.put_body.ensures ∙ puts (said) (lent) (inside)

@@ -13,19 +13,6 @@ use Rattle.user_control.proofs.Codes.{known_length, unknown_other}
 use Rattle.user_control.proofs.Reading.{reads_unknown, reads_short, code_read, reads_one, reads_two}
 use Rattle.user_control.proofs.deserialize.Goals as goal
 
--- the bytes, where the code and the first number have been read
-abbrev input : tie.After-new → List ℕ
-input j = j.before.before.before.before.before.before.before.args.bytes.now
-
-bytes : (j : tie.After-new) → Bytes (input j)
-bytes j i = omega (arith, j.before.before.before.before.before.before.shared-slice-known.given i)
-
-code : (j : tie.After-new) (k : ℕ) → j.before.before.before.before.number_at.result ≡ k → code_in (input j) % 2 ^ 32 ≡ k
-code j k e = sym j.before.before.before.before.number_at.ensures ∙ e
-
-enough : (j : tie.After-new) (k : ℕ) → j.before.before.before.before.number_at.result ≡ k → known k ≡ true → body_length k ≤ length (input j)
-enough j k e h = omega (arith, j.before.before.before.body-length.ensures ∙ ap length_or0 e ∙ known_length k h)
-
 -- an event of one number
 one : (j : tie.After-new) (k : ℕ) {n : ℕ} → j.before.before.before.before.number_at.result ≡ k → known k ≡ true → count k ≡ 1
     → n ≡ j.before.number-at2.result → event k (n ∷ []) ≡ reading (input j)
@@ -38,9 +25,11 @@ returns-then-bytes-lt2 c = simp (lt-ltb _ 2 c.if-bytes-lt2.true)
 
 pub returns-then-bytes-needed : goal.returns-then-bytes-needed
 returns-then-bytes-needed c =
+    let input : List ℕ = c.args.bytes.now in
+    let bytes : Bytes (input) = (λ i. omega (arith, c.shared_slice_known-1.given i)) in
     let bytes = c.args.bytes.now in
     let B : Bytes bytes = λ i. omega (arith, c.shared_slice_known-1.given i) in
-    let read : c.number_at-code.result ≡ code_in bytes = c.number_at-code.ensures ∙ code_read bytes B (omega arith) in
+    let read : c.number_at-code.result ≡ code_in bytes = c.number_at-code.ensures ∙ code_read bytes (omega arith) in
     sym (reads_short bytes (omega arith) (omega (arith, c.body_length-needed.ensures ∙ ap length_or0 read)))
 
 pub returns-in-0 : goal.returns-in-0
@@ -58,8 +47,12 @@ returns-in-2 c = one c 2 c.in-2.keys3 refl refl refl
 pub returns-in-3 : goal.returns-in-3
 unfolding known count
 returns-in-3 c =
+    let input : List ℕ = c.args.bytes.now in
+    let bytes : Bytes (input) = (λ i. omega (arith, c.shared_slice_known-1.given i)) in
+    let code : (k : ℕ) → c.number_at-code.result ≡ k → code_in (input) % 2 ^ 32 ≡ k = (λ k. λ e. sym c.number_at-code.ensures ∙ e) in
+    let enough : (k : ℕ) → c.number_at-code.result ≡ k → known k ≡ true → body_length k ≤ length (input) = (λ k. λ e. λ h. omega (arith, c.body_length-needed.ensures ∙ ap length_or0 e ∙ known_length k h)) in
     let e = c.in-3.keys4 in
-    reads_two (input c) (bytes c) (omega arith) 3 c.number_at-number.result c.number_at.result (code c 3 e) refl refl (enough c 3 e refl) c.number_at-number.ensures c.number_at.ensures
+    reads_two (input) (bytes) (omega arith) 3 c.number_at-number.result c.number_at.result (code 3 e) refl refl (enough 3 e refl) c.number_at-number.ensures c.number_at.ensures
 
 pub returns-in-4 : goal.returns-in-4
 unfolding known count
@@ -83,10 +76,12 @@ returns-in-32 c = one c 32 c.in-32.keys9 refl refl refl
 
 pub returns-in_default : goal.returns-in_default
 returns-in_default c =
+    let input : List ℕ = c.args.bytes.now in
+    let bytes : Bytes (input) = (λ i. omega (arith, c.shared_slice_known-1.given i)) in
     let r = c.in_default.rest in
     let result = c.number_at-code.result in
     let other : known result ≡ false =
     unknown_other result r.0.0.0.0.0.0.0.0.1 r.0.0.0.0.0.0.0.1 r.0.0.0.0.0.0.1 r.0.0.0.0.0.1 r.0.0.0.0.1 r.0.0.0.1 r.0.0.1 r.0.1 r.1
     in
-    let read : result ≡ code_in (input c) = c.number_at-code.ensures ∙ code_read (input c) (bytes c) (omega arith) in
-    sym (reads_unknown (input c) (omega arith) (sym (ap known read) ∙ other))
+    let read : result ≡ code_in (input) = c.number_at-code.ensures ∙ code_read (input) (bytes) (omega arith) in
+    sym (reads_unknown (input) (omega arith) (sym (ap known read) ∙ other))

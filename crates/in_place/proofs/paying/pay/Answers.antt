@@ -22,7 +22,7 @@ landed-done-requires c =
     let same = ap (λ (x : Held). x.left) i.ensures in
     let room = ap (λ (x : Held). x.room) i.ensures in
     rw i.ensures
-    (type_small (get_or held 6 0), (c.requires.stage, (omega (arith, c.least-n.ensures, c.wide.ensures, same), omega (arith, c.requires.ends, i.type-inv, room))))
+    (type_small (get_or held 6 0), (c.requires.stage, (omega (arith, c.least-n.ensures, c.wide.ensures, same), omega (arith, c.requires.ends, i.type_inv, room))))
 
 pub returns : goal.returns
 returns c =

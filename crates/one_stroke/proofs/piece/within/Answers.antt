@@ -17,7 +17,7 @@ pub returns-then-lies_outside : goal.returns-then-lies_outside
 returns-then-lies_outside c = record { taken = λ e. never e; numbers = λ _. refl; buffer = λ _. refl }
 
 pub overflow_cast-input : goal.overflow_cast-input
-overflow_cast-input c = let w = (c.lies_outside.ensures c.if-lies_outside.false).lies [] in let i = c.held_in-h in omega (arith, w.short, ap (λ (x : Held). x.left) i.ensures, i.type-inv)
+overflow_cast-input c = let w = (c.lies_outside.ensures c.if-lies_outside.false).lies [] in let i = c.held_in-h in omega (arith, w.short, ap (λ (x : Held). x.left) i.ensures, i.type_inv)
 
 pub nearer-requires : goal.nearer-requires
 nearer-requires c =
@@ -25,7 +25,7 @@ nearer-requires c =
     let w = c.lies_outside.ensures c.if-lies_outside.false in
     let i = c.held_in-h in
     let room = ap (λ (x : Held). x.room) i.ensures in
-    rw i.ensures (type_small (get_or held 6 0), (w.stage, (omega (arith, (w.lies []).short), omega (arith, (w.lies []).ends, i.type-inv, room))))
+    rw i.ensures (type_small (get_or held 6 0), (w.stage, (omega (arith, (w.lies []).short), omega (arith, (w.lies []).ends, i.type_inv, room))))
 
 pub returns : goal.returns
 returns c =

@@ -36,35 +36,43 @@ module _ (z : ℤ) (e : lt_z z (pos 0) ≡ true) where
   turned : pos 0 -ℤ (z +ℤ pos 1) ≡ pos (mag z)
   turned = ap (λ (x : ℤ). pos 0 -ℤ x) nearer ∙ ap (λ (x : ℤ). pos 0 +ℤ x) (neg_ℤ-neg_ℤ (pos (mag z))) ∙ +ℤ_idl (pos (mag z))
 
--- the parameter, read back from its bits
-back : (c : lts.Start reads.Pre reads.Post) → to_z w64 (of_z w64 c.args.number) ≡ c.args.number
-back c = to_z-of_z w64 c.args.number c.ranges.number
-
-below-zero : (c : lts.Then1 reads.Pre reads.Post) → lt_z c.before.args.number (pos 0) ≡ true
-below-zero c = rw (back c.before) at c.if1.true
-
 pub overflow_add-result : goal.overflow_add-result
-overflow_add-result c = rw (back c, nearer _ (below-zero c)) (negative_fits _ c.ranges.number.sfits)
+overflow_add-result c =
+    let back : to_z w64 (of_z w64 c.args.number) ≡ c.args.number = to_z-of_z w64 c.args.number c.ranges.number in
+    let below-zero : lt_z c.args.number (pos 0) ≡ true = rw (back) at c.if-number-lt0.true in
+    rw (back, nearer _ (below-zero)) (negative_fits _ c.ranges.number.sfits)
 
 pub overflow_sub-result : goal.overflow_sub-result
-overflow_sub-result c = rw (to_z-of_z w64 _ (add-result c), back c, turned _ (below-zero c)) (record { sfits = c.ranges.number.sfits })
-
-value : (c : lts.Then1 reads.Pre reads.Post)
-    → to_z w64 (of_z w64 (pos 0 -ℤ to_z w64 (of_z w64 (to_z w64 (of_z w64 c.before.args.number) +ℤ pos 1)))) ≡ pos (mag c.before.args.number)
-value c = to_z-of_z w64 _ (sub-result c) ∙ rw (to_z-of_z w64 _ (add-result c), back c.before) (turned c.before.args.number (below-zero c))
+overflow_sub-result c =
+    let back : to_z w64 (of_z w64 c.args.number) ≡ c.args.number = to_z-of_z w64 c.args.number c.ranges.number in
+    let below-zero : lt_z c.args.number (pos 0) ≡ true = rw (back) at c.if-number-lt0.true in
+    rw (to_z-of_z w64 _ (overflow_add-result c), back, turned _ (below-zero)) (record { sfits = c.ranges.number.sfits })
 
 pub overflow_cast-result : goal.overflow_cast-result
-overflow_cast-result c = rw (value c) (tt, record { fits = omega (arith, c.ranges.number.sfits) })
+overflow_cast-result c =
+    let back : to_z w64 (of_z w64 c.args.number) ≡ c.args.number = to_z-of_z w64 c.args.number c.ranges.number in
+    let below-zero : lt_z c.args.number (pos 0) ≡ true = rw (back) at c.if-number-lt0.true in
+    let value : to_z w64 (of_z w64 (pos 0 -ℤ to_z w64 (of_z w64 (to_z w64 (of_z w64 c.args.number) +ℤ pos 1)))) ≡ pos (mag c.args.number) = to_z-of_z w64 _ (overflow_sub-result c) ∙ rw (to_z-of_z w64 _ (overflow_add-result c), back) (turned c.args.number (below-zero)) in
+    rw (value) (tt, record { fits = omega (arith, c.ranges.number.sfits) })
 
 pub overflow_add-result-then-number-lt0 : goal.overflow_add-result-then-number-lt0
-overflow_add-result-then-number-lt0 c = rw (value c) (record { fits = omega (arith, c.ranges.number.sfits) })
+overflow_add-result-then-number-lt0 c =
+    let back : to_z w64 (of_z w64 c.args.number) ≡ c.args.number = to_z-of_z w64 c.args.number c.ranges.number in
+    let below-zero : lt_z c.args.number (pos 0) ≡ true = rw (back) at c.if-number-lt0.true in
+    let value : to_z w64 (of_z w64 (pos 0 -ℤ to_z w64 (of_z w64 (to_z w64 (of_z w64 c.args.number) +ℤ pos 1)))) ≡ pos (mag c.args.number) = to_z-of_z w64 _ (overflow_sub-result c) ∙ rw (to_z-of_z w64 _ (overflow_add-result c), back) (turned c.args.number (below-zero)) in
+    rw (value) (record { fits = omega (arith, c.ranges.number.sfits) })
 
 pub returns-then-number-lt0 : goal.returns-then-number-lt0
-returns-then-number-lt0 c = rw (value c) (omega (arith, ap nat_abs (is_negative c.args.number (below-zero c))))
+returns-then-number-lt0 c =
+    let back : to_z w64 (of_z w64 c.args.number) ≡ c.args.number = to_z-of_z w64 c.args.number c.ranges.number in
+    let below-zero : lt_z c.args.number (pos 0) ≡ true = rw (back) at c.if-number-lt0.true in
+    let value : to_z w64 (of_z w64 (pos 0 -ℤ to_z w64 (of_z w64 (to_z w64 (of_z w64 c.args.number) +ℤ pos 1)))) ≡ pos (mag c.args.number) = to_z-of_z w64 _ (overflow_sub-result c) ∙ rw (to_z-of_z w64 _ (overflow_add-result c), back) (turned c.args.number (below-zero)) in
+    rw (value) (omega (arith, ap nat_abs (is_negative c.args.number (below-zero))))
 
 pub overflow_cast-result-2 : goal.overflow_cast-result-2
 overflow_cast-result-2 c =
-    rw (back c) (from_zero c.args.number (rw (back c) at c.if-number-lt0.false) c.ranges.number)
+    let back : to_z w64 (of_z w64 c.args.number) ≡ c.args.number = to_z-of_z w64 c.args.number c.ranges.number in
+    rw (back) (from_zero c.args.number (rw (back) at c.if-number-lt0.false) c.ranges.number)
   where
     from_zero : (z : ℤ) → lt_z z (pos 0) ≡ false → SFits w64 z → T (non_neg z) × Fits w64 (nat_abs z)
     from_zero (pos n) e f = (tt, record { fits = omega (arith, f.sfits) })

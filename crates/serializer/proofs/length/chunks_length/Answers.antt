@@ -9,26 +9,28 @@ use Rattle.serializer.proofs.Chunk.{head_most}
 use Rattle.serializer.proofs.PacketLength.{length_packet}
 use Rattle.serializer.proofs.length.chunks_length.Goals as goal
 
-abbrev start : tie.After-chunk-length2 → tie.Start
-start c = c.before.before.before
-
--- the heads of the later chunks
-heads : (c : tie.After-chunk-length2) → (length (start c).args.payload.now - 1) / (start c).args.size * c.chunk-length2.result ≤ max_length * 16
-heads c =
-    let a = (start c).args in
-    let less : (length a.payload.now - 1) / a.size ≤ max_length = omega (arith, div-le_self (length a.payload.now - 1) a.size) in
-    mul-le-mul {m₂ = 16} less (omega (arith, c.chunk-length2.ensures, head_most a.later a.header))
-
 pub overflow_mul-result : goal.overflow_mul-result
-overflow_mul-result c = omega (arith, heads c)
+overflow_mul-result c =
+    let heads : (length c.args.payload.now - 1) / c.args.size * c.chunk_length-2.result ≤ max_length * 16 = (let a = c.args in
+    let less : (length a.payload.now - 1) / a.size ≤ max_length = omega (arith, div-le_self (length a.payload.now - 1) a.size) in
+    mul-le-mul {m₂ = 16} less (omega (arith, c.chunk_length-2.ensures, head_most a.later a.header))) in
+    omega (arith, heads)
 
 pub overflow_add-result : goal.overflow_add-result
-overflow_add-result c = omega (arith, heads c, c.chunk_length.ensures, head_most (start c).args.first (start c).args.header)
+overflow_add-result c =
+    let heads : (length c.args.payload.now - 1) / c.args.size * c.chunk_length-2.result ≤ max_length * 16 = (let a = c.args in
+    let less : (length a.payload.now - 1) / a.size ≤ max_length = omega (arith, div-le_self (length a.payload.now - 1) a.size) in
+    mul-le-mul {m₂ = 16} less (omega (arith, c.chunk_length-2.ensures, head_most a.later a.header))) in
+    omega (arith, heads, c.chunk_length.ensures, head_most c.args.first c.args.header)
 
 pub overflow_add-result-2 : goal.overflow_add-result-2
-overflow_add-result-2 c = omega (arith, heads c, c.chunk_length.ensures, head_most (start c).args.first (start c).args.header)
+overflow_add-result-2 c =
+    let heads : (length c.args.payload.now - 1) / c.args.size * c.chunk_length-2.result ≤ max_length * 16 = (let a = c.args in
+    let less : (length a.payload.now - 1) / a.size ≤ max_length = omega (arith, div-le_self (length a.payload.now - 1) a.size) in
+    mul-le-mul {m₂ = 16} less (omega (arith, c.chunk_length-2.ensures, head_most a.later a.header))) in
+    omega (arith, heads, c.chunk_length.ensures, head_most c.args.first c.args.header)
 
 pub returns : goal.returns
 returns c =
-    let a = (start c).args in
+    let a = c.args in
     rw (c.chunk_length.ensures, c.chunk_length-2.ensures) (sym (length_packet a.first a.later a.header a.size a.payload.now (omega arith) (omega arith)))

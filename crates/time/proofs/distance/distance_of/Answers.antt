@@ -7,5 +7,5 @@ use Rattle.time.proofs.distance.distance_of.Goals as goal
 
 pub returns : goal.returns
 returns c =
-    to_z-of_z w64 _ (sfits_of c.wrap.type-inv) ∙ c.wrap.ensures
-    ∙ ap wrapped (to_z-of_z w64 _ (sfits_of c.minus.type-inv) ∙ c.minus.ensures)
+    to_z-of_z w64 _ (sfits_of c.wrap.type_inv) ∙ c.wrap.ensures
+    ∙ ap wrapped (to_z-of_z w64 _ (sfits_of c.minus.type_inv) ∙ c.minus.ensures)

@@ -13,4 +13,4 @@ overflow_sub-result c =
 pub returns : goal.returns
 returns c =
     let a = c.args in
-    to_z-of_z w64 _ (sub-result c) ∙ rw (to_z_pos w64 a.second (omega arith), to_z_pos w64 a.first (omega arith))
+    to_z-of_z w64 _ (overflow_sub-result c) ∙ rw (to_z_pos w64 a.second (omega arith), to_z_pos w64 a.first (omega arith))

@@ -30,32 +30,33 @@ module _ (z : ℤ) where
   unfolding wrapped
   within e f = rw (e, f)
 
--- the parameter, read back from its bits
-back : (c : lts.Start reads.Pre reads.Post) → to_z w64 (of_z w64 c.args.plain) ≡ c.args.plain
-back c = to_z-of_z w64 c.args.plain c.ranges.plain
-
 pub overflow_sub-result : goal.overflow_sub-result
 overflow_sub-result c =
-    let b = back c in
+    let back : to_z w64 (of_z w64 c.args.plain) ≡ c.args.plain = to_z-of_z w64 c.args.plain c.ranges.plain in
+    let b = back in
     rw b (less-fits c.args.plain _ _ (omega arith) (rw b at c.if-plain-gt-MAX_ADJACENT_VALUE.true) c.ranges.plain)
 
 pub returns-then-plain-gt-MAX_ADJACENT_VALUE : goal.returns-then-plain-gt-MAX_ADJACENT_VALUE
 returns-then-plain-gt-MAX_ADJACENT_VALUE c =
-    let b = back c in
-    to_z-of_z w64 _ (sub-result c) ∙ rw b (above c.args.plain (rw b at c.if-plain-gt-MAX_ADJACENT_VALUE.true))
+    let back : to_z w64 (of_z w64 c.args.plain) ≡ c.args.plain = to_z-of_z w64 c.args.plain c.ranges.plain in
+    let b = back in
+    to_z-of_z w64 _ (overflow_sub-result c) ∙ rw b (above c.args.plain (rw b at c.if-plain-gt-MAX_ADJACENT_VALUE.true))
 
 pub overflow_add-result : goal.overflow_add-result
 overflow_add-result c =
-    let b = back c in
+    let back : to_z w64 (of_z w64 c.args.plain) ≡ c.args.plain = to_z-of_z w64 c.args.plain c.ranges.plain in
+    let b = back in
     rw b (more-fits c.args.plain _ _ (omega arith) (rw b at c.if-plain.true) c.ranges.plain)
 
 pub returns-then-plain : goal.returns-then-plain
 returns-then-plain c =
-    let b = back c in
-    to_z-of_z w64 _ (add-result c)
+    let back : to_z w64 (of_z w64 c.args.plain) ≡ c.args.plain = to_z-of_z w64 c.args.plain c.ranges.plain in
+    let b = back in
+    to_z-of_z w64 _ (overflow_add-result c)
     ∙ rw b (below c.args.plain (rw b at c.if-plain-gt-MAX_ADJACENT_VALUE.false) (rw b at c.if-plain.true))
 
 pub returns : goal.returns
 returns c =
-    let b = back c in
+    let back : to_z w64 (of_z w64 c.args.plain) ≡ c.args.plain = to_z-of_z w64 c.args.plain c.ranges.plain in
+    let b = back in
     rw b (within c.args.plain (rw b at c.if-plain-gt-MAX_ADJACENT_VALUE.false) (rw b at c.if-plain.false))
