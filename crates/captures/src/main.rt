@@ -33,15 +33,20 @@ fn read(rt: &impl Files, name: &str, capture: &mut [u8]) -> io::Result<usize> {
     read_full(&mut file, capture)
 }
 
-// Reads the capture and walks through it.
+// Reads the capture and walks through it. Where it cannot be read, its name is on standard error.
 fn run(
-    rt: &(impl Files + Print),
+    rt: &(impl Files + Print + Eprint),
     name: &str,
     capture: &mut [u8],
     payload: &mut [u8],
 ) -> io::Result<()> {
-    let count = read(rt, name, capture)?;
-    both(rt, name, part(capture, 0, count), payload)
+    match read(rt, name, capture) {
+        Ok(count) => both(rt, name, part(capture, 0, count), payload),
+        Err(error) => {
+            eprintln!(rt; "{name}: {error}")?;
+            Err(error)
+        }
+    }
 }
 
 fn main(rt: HostRuntime) -> io::Result<()> {
