@@ -1,14 +1,15 @@
 // The decoder by value: the script on standard input, of its calls alone, answered as `replay` answers it.
 #![tactic(auto)]
+
 mod calls;
 
 use crate::calls::make;
 use deserializer::ChunkDeserializer;
-use libc::{STDIN_FILENO, STDOUT_FILENO};
 use script_lines::is_skipped;
 use script_said::{put, put_said};
 use script_text::find;
-use test_parts::part;
+use std::io;
+use test_parts::{part, read_full};
 
 // The longest script, and the bytes that a line gives in hex.
 const INPUT_LENGTH: usize = 16384;
@@ -68,16 +69,16 @@ fn answer_all(
 }
 
 // Writes the text.
-fn write(text: &[u8; TEXT_LENGTH], filled: usize) {
-    io::write_all(STDOUT_FILENO, part(text, 0, filled));
+fn write(rt: &impl Print, text: &[u8; TEXT_LENGTH], filled: usize) -> io::Result<()> {
+    rt.write_all(part(text, 0, filled))
 }
 
-fn main() {
+fn main(rt: HostRuntime) -> io::Result<()> {
     let mut input = [0u8; INPUT_LENGTH];
     let mut text = [0u8; TEXT_LENGTH];
     let mut bytes = [0u8; BYTES_LENGTH];
     let mut payload = [0u8; PAYLOAD_LENGTH];
-    let length = io::read_full(STDIN_FILENO, &mut input);
+    let length = read_full(&mut rt.reader(), &mut input)?;
     let filled = answer_all(&input[..length], &mut text, &mut bytes, &mut payload);
-    write(&text, filled);
+    write(&rt, &text, filled)
 }

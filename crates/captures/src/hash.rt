@@ -1,19 +1,19 @@
 // Hashes on standard output.
 use crate::sha256::Words;
-use libc::STDOUT_FILENO;
+use std::io;
 
-fn print_word(word: u32) {
-    io::print_hex(STDOUT_FILENO, word as u64, 8);
+fn print_word(rt: &impl Print, word: u32) -> io::Result<()> {
+    print!(rt; "{word:08x}")
 }
 
 // Writes a hash in hex.
-pub fn print_hash(hash: Words) {
-    print_word(hash.a);
-    print_word(hash.b);
-    print_word(hash.c);
-    print_word(hash.d);
-    print_word(hash.e);
-    print_word(hash.f);
-    print_word(hash.g);
-    print_word(hash.h);
+pub fn print_hash(rt: &impl Print, hash: Words) -> io::Result<()> {
+    print_word(rt, hash.a)?;
+    print_word(rt, hash.b)?;
+    print_word(rt, hash.c)?;
+    print_word(rt, hash.d)?;
+    print_word(rt, hash.e)?;
+    print_word(rt, hash.f)?;
+    print_word(rt, hash.g)?;
+    print_word(rt, hash.h)
 }

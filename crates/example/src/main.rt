@@ -1,17 +1,18 @@
 // One message there and back, and a byte that is refused: a type 3 chunk of a stream that has no row.
 #![tactic(auto)]
+
 use deserializer::{Answer, ChunkDeserializer, Decoded};
-use libc::STDOUT_FILENO;
 use serializer::ChunkSerializer;
+use std::io;
 use time::RtmpTimestamp;
 
-fn say(words: &[u8], number: u64) {
-    io::write_all(STDOUT_FILENO, words);
-    io::print_decimal(STDOUT_FILENO, number);
+fn say(rt: &impl Print, words: &[u8], number: u64) -> io::Result<()> {
+    rt.write_all(words)?;
+    rt.print(number)
 }
 
 // Says what a call answered, and hands the decoder on.
-fn tell(decoded: Decoded) -> ChunkDeserializer {
+fn tell(rt: &impl Print, decoded: Decoded) -> io::Result<ChunkDeserializer> {
     let answer = decoded.answer;
     match answer {
         Answer::Message {
@@ -20,18 +21,18 @@ fn tell(decoded: Decoded) -> ChunkDeserializer {
             length,
             ..
         } => {
-            say(b"message of type ", type_id as u64);
-            say(b" at ", timestamp.value as u64);
-            say(b" with bytes: ", length as u64);
+            say(rt, b"message of type ", type_id as u64)?;
+            say(rt, b" at ", timestamp.value as u64)?;
+            say(rt, b" with bytes: ", length as u64)?;
         }
-        Answer::More { used } => say(b"more wanted, used ", used as u64),
-        Answer::Refused { number, .. } => say(b"refused with ", number as u64),
+        Answer::More { used } => say(rt, b"more wanted, used ", used as u64)?,
+        Answer::Refused { number, .. } => say(rt, b"refused with ", number as u64)?,
     }
-    io::write_all(STDOUT_FILENO, b"\n");
-    decoded.deserializer
+    rt.write_all(b"\n")?;
+    Ok(decoded.deserializer)
 }
 
-fn main() {
+fn main(rt: HostRuntime) -> io::Result<()> {
     let mut wire = [0u8; 64];
     let mut picture = [0u8; 4096];
     let time = RtmpTimestamp::new(40);
@@ -39,6 +40,7 @@ fn main() {
     encoder.serialize(9, 1, time, b"a frame", false, false, &mut wire);
     let made = ChunkDeserializer::new(4096);
     let decoder = made.deserializer;
-    let decoder = tell(decoder.get_next_message(&wire, &mut picture));
-    tell(decoder.get_next_message(b"\xc5", &mut picture));
+    let decoder = tell(&rt, decoder.get_next_message(&wire, &mut picture))?;
+    tell(&rt, decoder.get_next_message(b"\xc5", &mut picture))?;
+    Ok(())
 }

@@ -1,5 +1,8 @@
 // Runs the script on standard input: plans, and what the check says of proposals.
 #![tactic(auto)]
-fn main() {
-    script::run();
+
+use std::io;
+
+fn main(rt: HostRuntime) -> io::Result<()> {
+    script::run(&rt)
 }

@@ -1,5 +1,8 @@
 // Runs the script on standard input: every refusal that the codec gives.
 #![tactic(auto)]
-fn main() {
-    script::run();
+
+use std::io;
+
+fn main(rt: HostRuntime) -> io::Result<()> {
+    script::run(&rt)
 }

@@ -1,9 +1,12 @@
 // Runs a script of the codec's calls: one call a line on standard input, one answer a line on
-#![tactic(auto)]
-use in_place::TABLE_LENGTH;
 // standard output.
+#![tactic(auto)]
+
 mod calls;
 mod turns;
+
+use in_place::TABLE_LENGTH;
+use std::io;
 
 // What is read: the unfinished line that is kept, of up to 262144 bytes, and at least as many more.
 pub const INPUT_LENGTH: usize = 524288;
@@ -25,7 +28,7 @@ pub const PAYLOAD_LENGTH: usize = 262144;
 const FIRST_ROOM: u32 = 65536;
 
 // Runs the script on standard input to its end, or to its first bad line.
-pub fn run() {
+pub fn run(rt: &(impl Input + Print)) -> io::Result<()> {
     let mut input = [0u8; INPUT_LENGTH];
     let mut text = [0u8; TEXT_LENGTH];
     let mut bytes = [0u8; BYTES_LENGTH];
@@ -35,6 +38,7 @@ pub fn run() {
     let mut rows = [0u32; TABLE_LENGTH];
     in_place::make(&mut held, &mut rows, FIRST_ROOM);
     turns::run_all(
+        rt,
         &mut held,
         &mut rows,
         &mut input,
@@ -42,5 +46,5 @@ pub fn run() {
         &mut bytes,
         &mut output,
         &mut payload,
-    );
+    )
 }

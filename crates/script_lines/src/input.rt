@@ -1,6 +1,7 @@
 // Standard input, read piece by piece into a buffer.
 use crate::state::State;
-use libc::STDIN_FILENO;
+use std::io;
+use std::io::Read;
 use test_parts::part;
 
 // Moves `count` bytes from `from` on to the start of the input.
@@ -19,21 +20,21 @@ fn move_to_start(input: &mut [u8], from: usize, count: usize) {
 }
 
 // Reads once to the place `end` of the input, and answers where what has come ends: `end` itself
-// where standard input has ended or cannot be read.
-fn read_to(input: &mut [u8], end: usize) -> usize {
+// where standard input has ended.
+fn read_to(rt: &impl Input, input: &mut [u8], end: usize) -> io::Result<usize> {
     if input.len() < end {
-        return end;
+        return Ok(end);
     }
-    let room = &mut input[end..];
-    let got = libc::read(STDIN_FILENO, room);
-    end + io::count(got, room)
+    let mut reader = rt.reader();
+    let count = reader.read(&mut input[end..])?;
+    Ok(end + count)
 }
 
 // Reads once behind the bytes that were not taken yet, which are moved to the start.
-pub fn read_more(state: State, input: &mut [u8]) -> State {
+pub fn read_more(rt: &impl Input, state: State, input: &mut [u8]) -> io::Result<State> {
     let start = state.start;
     let count = part(input, start, state.end).len();
     move_to_start(input, start, count);
-    let end = read_to(input, count);
-    state.hold(end)
+    let end = read_to(rt, input, count)?;
+    Ok(state.hold(end))
 }

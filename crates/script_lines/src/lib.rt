@@ -1,6 +1,7 @@
 // Lines of standard input, and answers on standard output: how far a run is. A test tool: it is proved safe and ending, and
 // promises nothing further.
 #![tactic(auto)]
+
 mod input;
 mod lines;
 mod output;

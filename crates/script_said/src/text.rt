@@ -1,5 +1,6 @@
 // The text of answers: bytes put one after the other into a buffer. Each function takes how long
 // the text is and answers how long it is then. What the buffer has no room for is left out.
+use itoa::Buffer;
 
 // Puts one byte behind the text.
 pub fn put(text: &mut [u8], filled: usize, byte: u8) -> usize {
@@ -23,9 +24,8 @@ pub fn put_words(text: &mut [u8], filled: usize, words: &[u8]) -> usize {
 
 // Puts a number in decimal behind the text.
 pub fn put_number(text: &mut [u8], filled: usize, number: u64) -> usize {
-    let mut digits = [0u8; 20];
-    let count = io::decimal(number, &mut digits);
-    put_words(text, filled, &digits[..count])
+    let mut digits = Buffer::new();
+    put_words(text, filled, digits.format(number).as_bytes())
 }
 
 // Puts words and a number after them behind the text.

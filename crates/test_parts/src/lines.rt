@@ -1,19 +1,19 @@
 // Lines on standard output.
-use libc::STDOUT_FILENO;
+use std::io;
 
 // Writes words.
-pub fn print(words: &[u8]) {
-    io::write_all(STDOUT_FILENO, words);
+pub fn print(rt: &impl Print, words: &[u8]) -> io::Result<()> {
+    rt.write_all(words)
 }
 
 // Writes words and a number after them.
-pub fn print_numbered(words: &[u8], number: u64) {
-    print(words);
-    io::print_decimal(STDOUT_FILENO, number);
+pub fn print_numbered(rt: &impl Print, words: &[u8], number: u64) -> io::Result<()> {
+    print(rt, words)?;
+    rt.print(number)
 }
 
 // Writes a line that is words and a number after them.
-pub fn print_line(words: &[u8], number: u64) {
-    print_numbered(words, number);
-    print(b"\n");
+pub fn print_line(rt: &impl Print, words: &[u8], number: u64) -> io::Result<()> {
+    print_numbered(rt, words, number)?;
+    print(rt, b"\n")
 }

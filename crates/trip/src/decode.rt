@@ -3,6 +3,7 @@ use crate::first_bytes::print_first_bytes;
 use crate::kept::is_kept_one;
 use fields::number_at;
 use in_place::{Answer, TABLE_LENGTH, Telling, make, set_max_chunk_size};
+use std::io;
 use test_calls::{Cut, Walk, may_tell, next_answer};
 use test_parts::{part, print, print_line, print_numbered};
 
@@ -66,44 +67,51 @@ impl Decoding {
     }
 
     // With a new chunk size told.
-    fn told(mut self, size: u32, telling: Telling) -> Self {
+    fn told(mut self, rt: &impl Print, size: u32, telling: Telling) -> io::Result<Self> {
         let walk = self.walk;
         if self.is_told {
-            print_telling(size, telling);
+            print_telling(rt, size, telling)?;
         }
         self.walk = walk.told(telling);
-        self
+        Ok(self)
     }
 }
 
 // Writes what became of a new chunk size.
-fn print_telling(size: u32, telling: Telling) {
-    print_numbered(b"told ", size as u64);
+fn print_telling(rt: &impl Print, size: u32, telling: Telling) -> io::Result<()> {
+    print_numbered(rt, b"told ", size as u64)?;
     match telling {
-        Telling::Taken => print(b": taken"),
-        Telling::Refused(number) => print_numbered(b": refused ", number as u64),
+        Telling::Taken => print(rt, b": taken")?,
+        Telling::Refused(number) => print_numbered(rt, b": refused ", number as u64)?,
     }
-    print(b"\n");
+    print(rt, b"\n")
 }
 
 // Writes a message's header.
-fn print_header(type_id: u32, stream_id: u32, time: u32) {
-    print_numbered(b"message ", type_id as u64);
-    print_numbered(b" on stream ", stream_id as u64);
-    print_numbered(b" at ", time as u64);
+fn print_header(rt: &impl Print, type_id: u32, stream_id: u32, time: u32) -> io::Result<()> {
+    print_numbered(rt, b"message ", type_id as u64)?;
+    print_numbered(rt, b" on stream ", stream_id as u64)?;
+    print_numbered(rt, b" at ", time as u64)
 }
 
 // Writes a message.
-fn print_message(type_id: u32, stream_id: u32, time: u32, payload: &[u8]) {
-    print_header(type_id, stream_id, time);
-    print_numbered(b", ", payload.len() as u64);
-    print(b" bytes: ");
-    print_first_bytes(payload);
-    print(b"\n");
+fn print_message(
+    rt: &impl Print,
+    type_id: u32,
+    stream_id: u32,
+    time: u32,
+    payload: &[u8],
+) -> io::Result<()> {
+    print_header(rt, type_id, stream_id, time)?;
+    print_numbered(rt, b", ", payload.len() as u64)?;
+    print(rt, b" bytes: ")?;
+    print_first_bytes(rt, payload)?;
+    print(rt, b"\n")
 }
 
 // Takes a message that was handed out. One of type 1 tells a size.
 fn take_message(
+    rt: &impl Print,
     so_far: Decoding,
     held: &mut [u32; 24],
     type_id: u32,
@@ -112,9 +120,9 @@ fn take_message(
     payload: &[u8],
     places: &[u8],
     sent: &mut [u8],
-) -> Decoding {
+) -> io::Result<Decoding> {
     if so_far.is_told {
-        print_message(type_id, stream_id, time, payload);
+        print_message(rt, type_id, stream_id, time, payload)?;
     }
     let is_kept = is_kept_one(
         so_far.count,
@@ -126,26 +134,27 @@ fn take_message(
         sent,
     );
     if !is_kept {
-        print(b"not the message that was kept\n");
-        return so_far.bad();
+        print(rt, b"not the message that was kept\n")?;
+        return Ok(so_far.bad());
     }
     let next = so_far.with_message();
     if type_id == 1 {
         let size = number_at(payload, 0, 4);
-        return next.told(size, set_max_chunk_size(held, size));
+        return next.told(rt, size, set_max_chunk_size(held, size));
     }
-    next
+    Ok(next)
 }
 
 // Takes an answer.
 fn take_answer(
+    rt: &impl Print,
     so_far: Decoding,
     held: &mut [u32; 24],
     answer: Answer,
     payload: &[u8],
     places: &[u8],
     sent: &mut [u8],
-) -> Decoding {
+) -> io::Result<Decoding> {
     match answer {
         Answer::Message {
             type_id,
@@ -156,6 +165,7 @@ fn take_answer(
         } => {
             let message = part(payload, 0, length as usize);
             take_message(
+                rt,
                 so_far,
                 held,
                 type_id,
@@ -166,16 +176,17 @@ fn take_answer(
                 sent,
             )
         }
-        Answer::More { used: _ } => so_far,
+        Answer::More { used: _ } => Ok(so_far),
         Answer::Refused { number, used: _ } => {
-            print_line(b"refused ", number as u64);
-            so_far.bad()
+            print_line(rt, b"refused ", number as u64)?;
+            Ok(so_far.bad())
         }
     }
 }
 
 // Goes on to the next answer, and takes it.
 fn turn(
+    rt: &impl Print,
     so_far: Decoding,
     held: &mut [u32; 24],
     rows: &mut [u32; TABLE_LENGTH],
@@ -183,18 +194,19 @@ fn turn(
     places: &[u8],
     payload: &mut [u8],
     sent: &mut [u8],
-) -> Decoding {
+) -> io::Result<Decoding> {
     let walk = so_far.walk;
     let walked = next_answer(walk, held, rows, wire, payload);
     let after = walked.walk;
     let answer = walked.answer;
     let mut next = so_far;
     next.walk = after;
-    take_answer(next, held, answer, payload, places, sent)
+    take_answer(rt, next, held, answer, payload, places, sent)
 }
 
 // Offers all bytes of the wire.
 fn offer_all(
+    rt: &impl Print,
     start: Decoding,
     held: &mut [u32; 24],
     rows: &mut [u32; TABLE_LENGTH],
@@ -202,68 +214,70 @@ fn offer_all(
     places: &[u8],
     payload: &mut [u8],
     sent: &mut [u8],
-) -> Decoding {
+) -> io::Result<Decoding> {
     let mut so_far = start;
     let mut turns = TURNS;
     while 0 < turns {
-        so_far = turn(so_far, held, rows, wire, places, payload, sent);
+        so_far = turn(rt, so_far, held, rows, wire, places, payload, sent)?;
         let walk = so_far.walk;
         if walk.is_over(wire.len()) {
-            return so_far;
+            return Ok(so_far);
         }
         turns -= 1;
     }
-    so_far
+    Ok(so_far)
 }
 
 // Offers all bytes of the wire to a new decoder in pieces, and writes each answer where it `is_told` to.
 pub fn decode_all(
+    rt: &impl Print,
     wire: &[u8],
     places: &[u8],
     piece: usize,
     is_told: bool,
     payload: &mut [u8],
     sent: &mut [u8],
-) -> End {
+) -> io::Result<End> {
     let mut held = [0u32; 24];
     let mut rows = [0u32; TABLE_LENGTH];
     make(&mut held, &mut rows, ROOM);
     let start = Decoding::new(piece, is_told);
-    let end = offer_all(start, &mut held, &mut rows, wire, places, payload, sent);
+    let end = offer_all(rt, start, &mut held, &mut rows, wire, places, payload, sent)?;
     let walk = end.walk;
-    End {
+    Ok(End {
         count: end.count,
         used: walk.used,
         is_good: walk.is_good,
         may_tell: may_tell(&mut held),
-    }
+    })
 }
 
 // Writes how far it came, and whether that is the end of a message.
-fn print_used(used: usize, length: usize, may_tell: bool) {
-    print_numbered(b"used ", used as u64);
-    print_numbered(b" of ", length as u64);
+fn print_used(rt: &impl Print, used: usize, length: usize, may_tell: bool) -> io::Result<()> {
+    print_numbered(rt, b"used ", used as u64)?;
+    print_numbered(rt, b" of ", length as u64)?;
     if may_tell {
-        print(b", a size may be told\n");
+        print(rt, b", a size may be told\n")
     } else {
-        print(b", no size may be told\n");
+        print(rt, b", no size may be told\n")
     }
 }
 
 // Makes the way in with pieces of at most `piece` bytes.
 pub fn decode(
+    rt: &impl Print,
     wire: &[u8],
     places: &[u8],
     piece: usize,
     payload: &mut [u8],
     sent: &mut [u8],
-) -> Arrived {
-    print_line(b"pieces of ", piece as u64);
-    let end = decode_all(wire, places, piece, true, payload, sent);
-    print_used(end.used, wire.len(), end.may_tell);
-    Arrived {
+) -> io::Result<Arrived> {
+    print_line(rt, b"pieces of ", piece as u64)?;
+    let end = decode_all(rt, wire, places, piece, true, payload, sent)?;
+    print_used(rt, end.used, wire.len(), end.may_tell)?;
+    Ok(Arrived {
         count: end.count,
         used: end.used,
         is_good: end.is_good && end.may_tell && end.used == wire.len() && end.count == places.len(),
-    }
+    })
 }

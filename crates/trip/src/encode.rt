@@ -2,6 +2,7 @@
 use crate::plan::{CALLS, Call, call_at, fill};
 use fields::put_bytes;
 use serializer::{ChunkSerializer, Serialized};
+use std::io;
 use test_calls::{count_of, refusal_of};
 use test_parts::{part, print, print_numbered};
 use time::RtmpTimestamp;
@@ -61,37 +62,37 @@ fn send_lent(
 }
 
 // Writes which call it is.
-fn print_name(call: Call) {
+fn print_name(rt: &impl Print, call: Call) -> io::Result<()> {
     if call.is_size {
-        print_numbered(b"size ", call.size as u64);
+        print_numbered(rt, b"size ", call.size as u64)?;
     } else {
-        print_numbered(b"type ", call.type_id as u64);
+        print_numbered(rt, b"type ", call.type_id as u64)?;
     }
-    print_numbered(b" at ", call.time as u64);
+    print_numbered(rt, b" at ", call.time as u64)
 }
 
 // Writes a packet, and what becomes of it.
-fn print_packet(call: Call, count: usize) {
-    print_numbered(b": wrote ", count as u64);
+fn print_packet(rt: &impl Print, call: Call, count: usize) -> io::Result<()> {
+    print_numbered(rt, b": wrote ", count as u64)?;
     if call.is_kept {
-        print(b", kept");
+        print(rt, b", kept")
     } else {
-        print(b", left out");
+        print(rt, b", left out")
     }
 }
 
 // Writes what became of the call.
-fn print_call(call: Call, count: usize, refusal: u8) {
-    print_name(call);
+fn print_call(rt: &impl Print, call: Call, count: usize, refusal: u8) -> io::Result<()> {
+    print_name(rt, call)?;
     if refusal == 0 {
-        print_packet(call, count);
+        print_packet(rt, call, count)?;
     } else {
-        print_numbered(b": refused ", refusal as u64);
+        print_numbered(rt, b": refused ", refusal as u64)?;
     }
     if refusal == call.refusal {
-        print(b"\n");
+        print(rt, b"\n")
     } else {
-        print(b", not as planned\n");
+        print(rt, b", not as planned\n")
     }
 }
 
@@ -118,18 +119,19 @@ fn note(places: &mut [u8], count: usize, place: usize) -> usize {
 
 // Looks at what became of the call at `place`: its packet goes onto the wire where there is one that is kept.
 fn settle(
+    rt: &impl Print,
     so_far: Encoded,
     place: usize,
     serialized: Serialized,
     output: &[u8],
     wire: &mut [u8],
     places: &mut [u8],
-) -> Encoded {
+) -> io::Result<Encoded> {
     let call = call_at(place);
     let packet = serialized.packet;
     let count = count_of(packet);
     let refusal = refusal_of(packet);
-    print_call(call, count, refusal);
+    print_call(rt, call, count, refusal)?;
     let mut next = so_far;
     let after = serialized.serializer;
     next.encoder = after;
@@ -138,37 +140,39 @@ fn settle(
         next.filled = append(wire, so_far.filled, part(output, 0, count));
         next.count = note(places, so_far.count, place);
     }
-    next
+    Ok(next)
 }
 
 // Makes the call at `place`, and looks at what became of it.
 fn encode_one(
+    rt: &impl Print,
     so_far: Encoded,
     place: usize,
     wire: &mut [u8],
     places: &mut [u8],
     sent: &mut [u8],
     output: &mut [u8],
-) -> Encoded {
+) -> io::Result<Encoded> {
     let call = call_at(place);
     fill(place, sent);
     let encoder = so_far.encoder;
     let serialized = send_lent(encoder, call, part(sent, 0, call.length), output);
-    settle(so_far, place, serialized, output, wire, places)
+    settle(rt, so_far, place, serialized, output, wire, places)
 }
 
 // Makes all calls, and puts the kept packets on the wire and the places of their calls into `places`.
 pub fn encode_all(
+    rt: &impl Print,
     wire: &mut [u8],
     places: &mut [u8],
     sent: &mut [u8],
     output: &mut [u8],
-) -> Encoded {
+) -> io::Result<Encoded> {
     let mut so_far = Encoded::new();
     let mut place = 0;
     while place < CALLS {
-        so_far = encode_one(so_far, place, wire, places, sent, output);
+        so_far = encode_one(rt, so_far, place, wire, places, sent, output)?;
         place += 1;
     }
-    so_far
+    Ok(so_far)
 }

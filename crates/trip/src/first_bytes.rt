@@ -1,9 +1,11 @@
 // The first bytes of a payload, as the lines show them.
 use fields::{least, number_at};
-use libc::STDOUT_FILENO;
+use std::io;
 
 // Writes the first bytes in hex, at most four.
-pub fn print_first_bytes(bytes: &[u8]) {
+pub fn print_first_bytes(rt: &impl Print, bytes: &[u8]) -> io::Result<()> {
     let count = least(4, bytes.len());
-    io::print_hex(STDOUT_FILENO, number_at(bytes, 0, count) as u64, 2 * count);
+    let number = number_at(bytes, 0, count);
+    let width = 2 * count;
+    print!(rt; "{number:0width$x}")
 }
