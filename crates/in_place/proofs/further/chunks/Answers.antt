@@ -1,3 +1,4 @@
+-- A chunk where `stops` says that there is one, and one more taken after it; none yet at the start.
 use Prim.Native.Nat.{ℕ, ◌-◌, min}
 use mathlib.Core.Path.{◌≡◌, refl, ap, ◌∙◌}
 use native.Mathlib.Omega.{arith}
