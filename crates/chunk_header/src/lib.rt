@@ -1,5 +1,6 @@
 // What a chunk's header is made of (chunk_io/chunk_header.rs of rml_rtmp).
 #![tactic(auto)]
+
 ghost use Rattle.std.specs.Prelude.{◌≡◌};
 ghost use Rattle.chunk_header.specs.Header.{nothing};
 ghost use Rattle.chunk_header.specs.Table.{field_length, format_of, header_length, index_of, type_of};

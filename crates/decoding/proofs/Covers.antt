@@ -13,7 +13,7 @@ use Rattle.fields.proofs.Lists.{bytes_drop, bytes_take, big_take}
 use Rattle.chunk_header.specs.Layout.{Chunk, Form, one, two, three, Header, type0, type1, type2, type3, Extended, absent, present, basic_bytes, header_bytes, extended_bytes, chunk_bytes, format, FormFits, HeaderFits}
 use Rattle.decoding.specs.Decoder.{Decoder}
 use Rattle.chunk_meaning.specs.Stored.{Row}
-use Rattle.decoding.specs.Chunk.{ChunkFits, ExtendedFits, carried, header, left, row, row_of}
+use Rattle.decoding.specs.Chunk.{ChunkFits, ExtendedFits, carried, left, row, row_of}
 use Rattle.chunk_header.specs.Limits.{max_field}
 use Rattle.fields.proofs.Swapped.{last_digit, little_take, other_digits, swapped_small}
 

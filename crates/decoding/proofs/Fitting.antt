@@ -8,7 +8,6 @@ use native.Mathlib.Omega.{arith}
 use lib.Dec.{eqb, ltb, leb}
 use lib.ListN.{length, get_or}
 use borrow.Author.Tests.{ne_eqb, eqb-true, eqb-false, lt-ltb, ltb-true, ltb-false}
-use Rattle.fields.specs.Cases.{first}
 use Rattle.chunk_header.specs.declared.ChunkHeaderFormat.{ChunkHeaderFormat}
 use Rattle.chunk_header.specs.declared.ChunkHeaderFormat.TheVariants.{Full, TimeDeltaWithoutMessageStreamId, TimeDeltaOnly, Empty}
 use Rattle.chunk_header.specs.declared.HeaderField.{HeaderField}
@@ -24,8 +23,7 @@ use Rattle.byte_machine.specs.Header.{extended_next, lacks, length_next, opens, 
 use Rattle.chunk_meaning.specs.Meaning.{basic_refusal, first_refusal, later_refusal}
 use Rattle.chunk_header.specs.Limits.{max_field}
 use Rattle.byte_machine.specs.Rows.{find, free, put_at, put_row, row_at, row_count, table_length}
-use Rattle.decoding.specs.Answer.{refused}
-use Rattle.decoding.specs.Call.{next, step_of}
+use Rattle.decoding.specs.Call.{step_of}
 use Rattle.decoding.proofs.Runs.{pays_is}
 use Rattle.chunk_meaning.proofs.Unrefused.{basic_small, first_fits, first_small, inside_tells, later_length, later_small}
 use Rattle.byte_machine.proofs.Passing.{tested, at_stream, at_type, at_length, at_timestamp}

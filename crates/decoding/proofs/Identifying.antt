@@ -15,7 +15,7 @@ use Rattle.chunk_header.proofs.Basic.{csid_one, csid_one_short, csid_small, csid
 use Rattle.decoding.specs.Decoder.{Decoder}
 use Rattle.byte_machine.specs.Reader.{Reader, Csid, CsidSecond, CsidThird, at}
 use Rattle.decoding.specs.Call.{after, run}
-use Rattle.byte_machine.specs.Step.{basic, named}
+use Rattle.byte_machine.specs.Step.{named}
 use Rattle.decoding.proofs.Fields.{Reaches}
 use Rattle.decoding.proofs.Runs.{holding, run_header}
 use Rattle.byte_machine.specs.Look.{look}

@@ -20,7 +20,7 @@ use Rattle.chunk_header.specs.Basic.{csid}
 use Rattle.chunk_header.specs.Limits.{max_field}
 use Rattle.byte_machine.specs.Step.{basic_by, extended_field_step, length_field_step, named, stepped, stream_field_step, timestamp_field_step, type_field_step}
 use Rattle.decoding.specs.Decoder.{Decoder}
-use Rattle.decoding.specs.Answer.{message, refused}
+use Rattle.decoding.specs.Answer.{refused}
 use Rattle.decoding.specs.Call.{Outcome, after, closes, end, run, step_of, writes}
 use Rattle.byte_machine.specs.Setting.{Setting}
 use Rattle.byte_machine.specs.Look.{look, Look}

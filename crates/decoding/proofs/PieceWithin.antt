@@ -1,5 +1,5 @@
 -- Payload bytes that do not end their chunk, one by one, are one copy and a smaller count of bytes that the chunk lacks.
-use Prim.Native.Nat.{ℕ, ◌+◌, ◌-◌}
+use Prim.Native.Nat.{ℕ, ◌+◌}
 use mathlib.Core.Path.{◌≡◌, sym, ap, ◌∙◌}
 use mathlib.Core.List.{List, [], append-nil}
 use native.Mathlib.Omega.{arith}

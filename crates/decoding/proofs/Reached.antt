@@ -10,7 +10,7 @@ use lib.ListN.{length}
 use borrow.Author.Tests.{eqb-false}
 use Rattle.fields.specs.Cases.{◌when◌, first}
 use Rattle.decoding.specs.Decoder.{Decoder}
-use Rattle.byte_machine.specs.Reader.{Event, Go, Chunk, Message, Refuse, Reader, reader}
+use Rattle.byte_machine.specs.Reader.{Event, Go, Chunk, Message, Refuse, Reader}
 use Rattle.decoding.specs.Answer.{refused}
 use Rattle.decoding.specs.Calls.{Made, after_call, after_size, by_new}
 use Rattle.decoding.specs.Call.{Outcome, after, closes, end, is_refusal, next, outcome, run, step_of, writes}

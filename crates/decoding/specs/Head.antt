@@ -8,7 +8,6 @@ use Rattle.chunk_header.specs.Table.{format_of, header_length, type_of}
 use Rattle.decoding.specs.Decoder.{Decoder}
 use Rattle.byte_machine.specs.Reader.{Reader, Csid, Stepped, Unfinished, reading}
 use Rattle.chunk_meaning.specs.Stored.{Row, timed}
-use Rattle.decoding.specs.Call.{after}
 use Rattle.byte_machine.specs.Header.{opens}
 use Rattle.chunk_meaning.specs.Meaning.{first_refusal, first_time, later_refusal}
 use Rattle.byte_machine.specs.Rows.{find, row_count}

@@ -1,6 +1,7 @@
 // The decoder by value: its calls lend what it holds to the calls in place, and hand it back (chunk_io/deserializer.rs of
 // rml_rtmp).
 #![tactic(auto)]
+
 ghost use Rattle.std.specs.Prelude.{◌≡◌};
 ghost use Rattle.decoding.specs.Call.{next};
 ghost use Rattle.decoding.specs.Told.{made, told};

@@ -9,7 +9,20 @@ use lib.Dec.{eqb, ltb}
 use lib.ListN.{length, drop, get_or, length-drop}
 use lib.Seq.{drop-cons}
 use Rattle.drop_plan.specs.Check.{among, every, rising}
+use Rattle.drop_plan.specs.Plan.{staying}
 use Rattle.drop_plan.specs.Queue.{places_from, those, total}
+
+-- a packet is droppable, or among the places
+abbrev pub passes : List Bool → List ℕ → ℕ → Bool
+passes marks places p = get_or marks p false || among p places
+
+-- those from a place on that stay
+abbrev pub those_left : List ℕ → List Bool → ℕ → ℕ → List ℕ
+those_left lengths marks start i = those (staying marks start) (places_from i (length lengths - i))
+
+-- what they add up to
+abbrev pub total_left : List ℕ → List Bool → ℕ → ℕ → ℕ
+total_left lengths marks start i = total lengths (those_left lengths marks start i)
 
 -- the elements from a place on
 module _ (l : List ℕ) (i : ℕ) (h : i < length l) where

@@ -2,6 +2,7 @@
 // that judges any proposal. A queue is the packets' lengths, oldest first, and their droppable marks; a proposal is the places to
 // keep, counted from 0.
 #![tactic(auto)]
+
 ghost use Rattle.std.specs.Prelude.{◌≡◌};
 ghost use Rattle.drop_plan.specs.Answer.{outcome_of, verdict_of};
 ghost use Rattle.drop_plan.specs.Check.{judged};

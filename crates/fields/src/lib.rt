@@ -1,5 +1,6 @@
 // Bytes in lent slices: numbers, and runs of bytes, put at a place and read from a place.
 #![tactic(auto)]
+
 ghost use Rattle.std.specs.Prelude.{◌≡◌, ◌%◌, ◌^◌, min, length, take, drop};
 ghost use Rattle.fields.specs.Endian.{big_endian, number, swapped};
 ghost use Rattle.fields.specs.Output.{stored};

@@ -1,5 +1,6 @@
 // A decoder as numbers that a caller lends, and its table of rows.
 #![tactic(auto)]
+
 mod amounts;
 mod numbers;
 mod renewing;

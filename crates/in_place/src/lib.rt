@@ -1,6 +1,7 @@
 // The decoder in place: bytes in, messages out, over numbers and a table that the caller lends (chunk_io/deserializer.rs of
 // rml_rtmp).
 #![tactic(auto)]
+
 mod answer;
 mod call;
 mod further;

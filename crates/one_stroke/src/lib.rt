@@ -1,5 +1,6 @@
 // A call in one stroke, over a decoder that is lent as numbers: a message of one chunk, and a piece within a payload.
 #![tactic(auto)]
+
 mod message;
 mod piece;
 

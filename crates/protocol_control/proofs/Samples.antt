@@ -1,9 +1,8 @@
 -- The definitions at small bodies, computed: each body, each refusal at its edge, and their order.
-use mathlib.Core.List.{List, [], ◌∷◌}
+use mathlib.Core.List.{[], ◌∷◌}
 use mathlib.Core.Path.{◌≡◌, refl}
 use Rattle.fields.specs.Endian.{big_endian, gather}
 use Rattle.fields.specs.Writing.{outcome, refuse, writing, wrote}
-use Rattle.protocol_control.specs.declared.Kind.{Kind}
 use Rattle.protocol_control.specs.declared.Kind.TheVariants.{
   SetChunkSize as set_chunk_size,
   Abort as abort,
@@ -11,7 +10,6 @@ use Rattle.protocol_control.specs.declared.Kind.TheVariants.{
   WindowAcknowledgement as window_acknowledgement,
   SetPeerBandwidth as set_peer_bandwidth,
 }
-use Rattle.protocol_control.specs.declared.ProtocolControl.{ProtocolControl}
 use Rattle.protocol_control.specs.declared.ProtocolControl.TheVariants.{
   SetChunkSize,
   Abort,

@@ -1,6 +1,7 @@
 // The bodies of protocol control messages (messages/types/set_chunk_size.rs, abort.rs, acknowledgement.rs,
 // window_acknowledgement_size.rs and set_peer_bandwidth.rs of rml_rtmp).
 #![tactic(auto)]
+
 ghost use Rattle.std.specs.Prelude.{◌≡◌};
 ghost use Rattle.fields.specs.Writing.{outcome};
 ghost use Rattle.protocol_control.specs.Answer.{read_answer, write_answer};

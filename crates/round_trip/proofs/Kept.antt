@@ -80,8 +80,8 @@ tells_on s d buffer (send type stream time payload forced droppable output) d' b
 tells_on s d buffer (resize size time output) d' buffer' a t r at ended =
     let k = at.ready in
     let e = told_taken d' size k.open_still t.0 t.1 ended in
-    let Made-so = after_size k.by_calls size in
-    let ready : Ready (sized d' size) buffer' = record { by_calls = rw e at Made-so; open_still = k.open_still; between_chunks = k.between_chunks; long = k.long } in
+    let made_so = after_size k.by_calls size in
+    let ready : Ready (sized d' size) buffer' = record { by_calls = rw e at made_so; open_still = k.open_still; between_chunks = k.between_chunks; long = k.long } in
     record {
       told_to = sized d' size;
       tells_it = λ later. e;

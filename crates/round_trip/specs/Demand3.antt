@@ -1,5 +1,5 @@
 -- Demand 3, phrase by phrase: the kept messages of an encoder come out of a decoder, however their bytes are cut.
-use Rattle.std.specs.Prelude.{ℕ, zero, suc, ◌+◌, ◌^◌, ◌≤◌, ◌<◌, max, Bool, true, false, List, [], ◌∷◌, ◌++◌, map, ◌≡◌, length, take, drop}
+use Rattle.std.specs.Prelude.{ℕ, zero, suc, ◌^◌, ◌≤◌, ◌<◌, max, Bool, true, false, List, [], ◌∷◌, ◌++◌, map, ◌≡◌, length, take, drop}
 use Rattle.serializer.specs.declared.ChunkSerializer.{ChunkSerializer}
 use Rattle.serializer.specs.Answer.{Answer as Written, wrote, refused as not_written}
 use Rattle.serializer.specs.Message.{message as to_encode}

@@ -1,6 +1,7 @@
 // The lines of scripts (docs/SCRIPTS.md): a line read as one of a list of calls. It knows no codec. A test tool: it is proved safe
 // and ending, and promises nothing further.
 #![tactic(auto)]
+
 mod calls;
 mod hex;
 mod names;

@@ -68,6 +68,7 @@ pub fn later_format(force_uncompressed: bool) -> ChunkHeaderFormat
 }
 
 // The five rules, in their order.
+#[tactic(auto, unfolding(crate::specs::Header::format))]
 fn get_header_format(
     message: Message,
     csid: u32,

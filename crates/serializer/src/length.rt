@@ -7,6 +7,7 @@ ghost use Rattle.serializer.specs.Packet.{chunk, chunked, extended};
 use chunk_header::{ChunkHeader, ChunkHeaderFormat, MAX_INITIAL_TIMESTAMP, header_length};
 
 // What the extended time takes.
+#[tactic(auto, unfolding(fields::specs::Endian::big_endian))]
 pub fn extended_length(timestamp_field: u32) -> usize
     ensures { result ≡ length (extended_bytes (extended timestamp_field)) }
 {

@@ -1,5 +1,6 @@
 // The encoder: messages in, chunks out (chunk_io/serializer.rs of rml_rtmp).
 #![tactic(auto)]
+
 ghost use Rattle.std.specs.Prelude.{◌≡◌, length, ◌<◌, ◌≤◌};
 ghost use Rattle.serializer.specs.Answer.{answer_of};
 ghost use Rattle.serializer.specs.Message.{message as Message·message};
@@ -95,6 +96,7 @@ fn plan_for(serializer: ChunkSerializer, message: Message) -> Plan
 }
 
 // Sends a message whose payload has a length that is allowed; from then on chunks have `size_after`.
+#[tactic(auto, unfolding(crate::specs::Serialize::sent, crate::specs::Packet::packet))]
 fn send(
     serializer: ChunkSerializer,
     message: Message,

@@ -1,5 +1,5 @@
 -- Numbers of given widths, written and read again, and bytes read and written again: both go number by number.
-use Prim.Native.Nat.{ℕ, ◌+◌, ◌^◌, ◌≤◌, ◌<◌}
+use Prim.Native.Nat.{ℕ, ◌^◌, ◌≤◌}
 use mathlib.Core.Bool.{true, and-eq-true_iff}
 use mathlib.Core.List.{List, [], ◌∷◌, ◌++◌, append_assoc}
 use mathlib.Core.Path.{◌≡◌, refl}

@@ -1,5 +1,6 @@
 // The settings of a bank, stored as records: a length of what follows, a version, then fields.
 #![tactic(auto)]
+
 ghost use Rattle.std.specs.Prelude.{◌≡◌};
 ghost use Rattle.fields.specs.Writing.{outcome};
 ghost use Rattle.settings.specs.Answer.{read_answer, write_answer};

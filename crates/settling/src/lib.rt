@@ -1,5 +1,6 @@
 // What is refused of a header over numbers that a caller lends, and what it settles when it is whole.
 #![tactic(auto)]
+
 mod refusals;
 mod settle;
 

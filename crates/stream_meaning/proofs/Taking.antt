@@ -1,5 +1,5 @@
 -- A chunk that is not refused does to a decoder's view what it does to its stream: what a taken chunk leaves, seen through `viewed`.
-use Prim.Native.Nat.{ℕ, ◌+◌, ◌≤◌}
+use Prim.Native.Nat.{ℕ, ◌≤◌}
 use mathlib.Core.Bool.{Bool, true, false, cond}
 use mathlib.Core.List.{List, [], ◌∷◌, ◌++◌, append-nil}
 use mathlib.Core.Logic.{◌≢◌}

@@ -95,15 +95,15 @@ leads_after came messages a b o l =
     rw (used_shift (length a) o, handed_shift (length a) o, s, ← append_assoc came (signs a) (signs (take (used o.answer) b))) l
 
 -- a chunk that wants more, and one that ends a message, whatever the calls are
-leads_more : (came : List Sign) (messages : List Message) (a b : List ℕ) (one_Chunk o later : Outcome) → one_Chunk.answer ≡ more (length a) → o ≡ shift (length a) later
-    → Leads (came ++ signs a) (messages ++ handed_by one_Chunk.answer one_Chunk.payload) b later
+leads_more : (came : List Sign) (messages : List Message) (a b : List ℕ) (one_chunk o later : Outcome) → one_chunk.answer ≡ more (length a) → o ≡ shift (length a) later
+    → Leads (came ++ signs a) (messages ++ handed_by one_chunk.answer one_chunk.payload) b later
     → Leads came messages (a ++ b) o
-leads_more came messages a b one_Chunk o later e f l = rw f (leads_after came messages a b later (rw (e, append-nil messages) at l))
+leads_more came messages a b one_chunk o later e f l = rw f (leads_after came messages a b later (rw (e, append-nil messages) at l))
 
-leads_message : (came : List Sign) (messages : List Message) (a b : List ℕ) (one_Chunk o : Outcome) → used one_Chunk.answer ≡ length a → o ≡ one_Chunk
-    → Amid (came ++ signs a) (messages ++ handed_by one_Chunk.answer one_Chunk.payload) one_Chunk.deserializer one_Chunk.payload
+leads_message : (came : List Sign) (messages : List Message) (a b : List ℕ) (one_chunk o : Outcome) → used one_chunk.answer ≡ length a → o ≡ one_chunk
+    → Amid (came ++ signs a) (messages ++ handed_by one_chunk.answer one_chunk.payload) one_chunk.deserializer one_chunk.payload
     → Leads came messages (a ++ b) o
-leads_message came messages a b one_Chunk o e f l = rw (f, e, take-append_seam a b) l
+leads_message came messages a b one_chunk o e f l = rw (f, e, take-append_seam a b) l
 
 bytes_after : (xs ys : List ℕ) → Bytes (xs ++ ys) → Bytes ys
 bytes_after xs ys h = rw (drop-append_seam xs ys) at (bytes_drop (length xs) (xs ++ ys) h)

@@ -1,5 +1,5 @@
 -- A difference of two naturals in whole numbers, by which of them is larger; where both are below a bound, so is the difference.
-use Rattle.std.proofs.Common.{◌≡◌, ℕ, zero, suc, ◌-◌, ◌<◌, ◌≤◌, Bool, true, false, ltb, ℤ, pos, negsuc, ◌-ℤ◌, refl, ap, arith, ltb-true, le-ltb, lt-ltb}
+use Rattle.std.proofs.Common.{◌≡◌, ℕ, zero, suc, ◌-◌, ◌<◌, ◌≤◌, Bool, true, false, ltb, pos, negsuc, ◌-ℤ◌, refl, ap, arith, ltb-true, le-ltb, lt-ltb}
 use lib.IntN.{sub_ℕ}
 use lib.Signed.{mag}
 

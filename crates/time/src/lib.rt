@@ -1,5 +1,6 @@
 // The clock: 32-bit milliseconds that wrap (time.rs of rml_rtmp).
 #![tactic(auto)]
+
 ghost use Rattle.std.specs.Prelude.{◌≡◌};
 ghost use Rattle.time.specs.Clock.{sum, difference};
 ghost use Rattle.time.specs.Distance.{distance};

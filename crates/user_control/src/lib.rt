@@ -1,5 +1,6 @@
 // The bodies of user control messages (messages/types/user_control.rs of rml_rtmp).
 #![tactic(auto)]
+
 ghost use Rattle.std.specs.Prelude.{◌≡◌};
 ghost use Rattle.fields.specs.Writing.{outcome, writing};
 ghost use Rattle.user_control.specs.Answer.{read_answer, write_answer};

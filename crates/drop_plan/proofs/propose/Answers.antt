@@ -15,18 +15,18 @@ returns-then-lengths-gt-MOST c = simp (lt-ltb _ _ c.if-lengths-gt-MOST.true) c.w
 pub returns-then-limit-rest_length : goal.returns-then-limit-rest_length
 unfolding planned
 returns-then-limit-rest_length c =
-    let asked : Queue = (let a = c.args in queue a.lengths.now a.droppable.now) in
+    let asked : Queue = queue c.args.lengths.now c.args.droppable.now in
     let limit : ℕ = c.args.limit in
-    let needed : c.rest_length.result ≡ total (asked).lengths (undroppable (asked)) = c.rest_length.ensures ∙ ap (total (asked).lengths) (rest_last (asked)) in
-    let over : limit < total (asked).lengths (undroppable (asked)) = omega (arith, c.if-limit-rest_length.true, needed) in
+    let needed : c.rest_length.result ≡ total asked.lengths (undroppable asked) = c.rest_length.ensures ∙ ap (total asked.lengths) (rest_last asked) in
+    let over : limit < total asked.lengths (undroppable asked) = omega (arith, c.if-limit-rest_length.true, needed) in
     simp (le-ltb _ _ c.if-lengths-gt-MOST.false, lt-ltb _ _ over) c.without_places-then-limit-rest_length.ensures
 
 pub returns : goal.returns
 unfolding planned
 returns c =
-    let asked : Queue = (let a = c.args in queue a.lengths.now a.droppable.now) in
+    let asked : Queue = queue c.args.lengths.now c.args.droppable.now in
     let limit : ℕ = c.args.limit in
-    let needed : c.rest_length.result ≡ total (asked).lengths (undroppable (asked)) = c.rest_length.ensures ∙ ap (total (asked).lengths) (rest_last (asked)) in
-    let fits : total (asked).lengths (undroppable (asked)) ≤ limit = omega (arith, c.if-limit-rest_length.false, needed) in
+    let needed : c.rest_length.result ≡ total asked.lengths (undroppable asked) = c.rest_length.ensures ∙ ap (total asked.lengths) (rest_last asked) in
+    let fits : total asked.lengths (undroppable asked) ≤ limit = omega (arith, c.if-limit-rest_length.false, needed) in
     simp (le-ltb _ _ c.if-lengths-gt-MOST.false, le-ltb _ _ fits)
-    (c.keep_from.ensures ∙ ap (λ (start : ℕ). proposed (rest (asked) start)) c.first_to_stay-start.ensures)
+    (c.keep_from.ensures ∙ ap (λ (start : ℕ). proposed (rest asked start)) c.first_to_stay-start.ensures)

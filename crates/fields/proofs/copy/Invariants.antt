@@ -1,5 +1,5 @@
 -- The invariant: the first i bytes are copied, and the others are as they were.
-use Prim.Native.Nat.{◌≤◌, ◌+◌, ◌-◌}
+use Prim.Native.Nat.{◌≤◌, ◌-◌}
 use mathlib.Core.List.{◌++◌}
 use mathlib.Core.Path.{◌≡◌}
 use lib.ListN.{length, take, drop}

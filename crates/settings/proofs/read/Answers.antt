@@ -4,7 +4,6 @@ use mathlib.Core.Bool.{true, false}
 use mathlib.Core.List.{List}
 use mathlib.Core.Path.{◌≡◌, sym, ap, ◌∙◌}
 use native.Mathlib.Omega.{arith}
-use borrow.Author.Tests.{not-true, not-false}
 use Rattle.settings.specs.Answer.{refused_version, settings}
 use Rattle.settings.specs.declared.Settings.{Settings}
 use Rattle.settings.specs.Limits.{outside}
@@ -24,7 +23,7 @@ returns-then-not-is_known c =
     let a = c.args in
     let bytes = a.bytes.now in
     let read = c.version_in-version.ensures in
-    let other : known (version_of a.newest) (version_in bytes) ≡ false = rw (← read) (sym c.is_known.ensures ∙ not-true _ c.if-not-is_known.true) in
+    let other : known (version_of a.newest) (version_in bytes) ≡ false = rw (← read) (sym c.is_known.ensures ∙ c.if-not-is_known.true) in
     ap (refused_version 26) read ∙ sym (reads_unknown (version_of a.newest) bytes (sym c.is_short.ensures ∙ c.if-is_short.false) other)
 
 pub returns-then-length-body_length : goal.returns-then-length-body_length
@@ -33,7 +32,7 @@ returns-then-length-body_length c =
     let newest : ℕ = version_of c.args.newest in
     let version : c.version_in-version.result ≡ version_in (input) = c.version_in-version.ensures in
     let whole : short (input) ≡ false = sym c.is_short.ensures ∙ c.if-is_short.false in
-    let knows : known (newest) (version_in (input)) ≡ true = rw (← version) (sym c.is_known.ensures ∙ not-false _ c.if-not-is_known.false) in
+    let knows : known (newest) (version_in (input)) ≡ true = rw (← version) (sym c.is_known.ensures ∙ c.if-not-is_known.false) in
     let body : c.body_length.result ≡ body_length (version_in (input)) = c.body_length.ensures ∙ ap body_length (version) in
     sym (reads_other_length (newest) (input) (whole) (knows) (λ e. c.if-length-body_length.true (c.length_in-length.ensures ∙ e ∙ sym (body))))
 
@@ -43,7 +42,7 @@ returns-then-is_outside c =
     let newest : ℕ = version_of c.args.newest in
     let version : c.version_in-version.result ≡ version_in (input) = c.version_in-version.ensures in
     let whole : short (input) ≡ false = sym c.is_short.ensures ∙ c.if-is_short.false in
-    let knows : known (newest) (version_in (input)) ≡ true = rw (← version) (sym c.is_known.ensures ∙ not-false _ c.if-not-is_known.false) in
+    let knows : known (newest) (version_in (input)) ≡ true = rw (← version) (sym c.is_known.ensures ∙ c.if-not-is_known.false) in
     let body : c.body_length.result ≡ body_length (version_in (input)) = c.body_length.ensures ∙ ap body_length (version) in
     let exact : c.length_in-length.result ≡ c.body_length.result → length_in (input) ≡ body_length (version_in (input)) = (λ e. sym c.length_in-length.ensures ∙ e ∙ body) in
     let said = c.settings_in-settings.ensures ∙ ap (λ (v : ℕ). settings_in v (input)) (version) in
@@ -63,7 +62,7 @@ returns c =
     let newest : ℕ = version_of c.args.newest in
     let version : c.version_in-version.result ≡ version_in (input) = c.version_in-version.ensures in
     let whole : short (input) ≡ false = sym c.is_short.ensures ∙ c.if-is_short.false in
-    let knows : known (newest) (version_in (input)) ≡ true = rw (← version) (sym c.is_known.ensures ∙ not-false _ c.if-not-is_known.false) in
+    let knows : known (newest) (version_in (input)) ≡ true = rw (← version) (sym c.is_known.ensures ∙ c.if-not-is_known.false) in
     let body : c.body_length.result ≡ body_length (version_in (input)) = c.body_length.ensures ∙ ap body_length (version) in
     let exact : c.length_in-length.result ≡ c.body_length.result → length_in (input) ≡ body_length (version_in (input)) = (λ e. sym c.length_in-length.ensures ∙ e ∙ body) in
     let said = c.settings_in-settings.ensures ∙ ap (λ (v : ℕ). settings_in v (input)) (version) in

@@ -4,20 +4,26 @@ use mathlib.Core.Path.{◌≡◌, refl, sym, ap, ◌∙◌}
 use mathlib.Core.Bool.{true, false}
 use mathlib.Core.List.{List, [], ◌∷◌}
 use native.Mathlib.Omega.{arith}
-use lib.ListN.{length}
+use lib.ListN.{length, take, drop}
 use borrow.Author.Tests.{lt-ltb}
-use Rattle.fields.specs.Endian.{Bytes}
+use Rattle.fields.specs.Endian.{number, Bytes}
 use Rattle.user_control.specs.Answer.{event}
 use Rattle.user_control.specs.Reading.{code_in, known, count, body_length, length_or0, reading}
 use Rattle.user_control.proofs.Codes.{known_length, unknown_other}
 use Rattle.user_control.proofs.Reading.{reads_unknown, reads_short, code_read, reads_one, reads_two}
 use Rattle.user_control.proofs.deserialize.Goals as goal
 
--- an event of one number
-one : (j : tie.After-new) (k : ℕ) {n : ℕ} → j.before.before.before.before.number_at.result ≡ k → known k ≡ true → count k ≡ 1
-    → n ≡ j.before.number-at2.result → event k (n ∷ []) ≡ reading (input j)
-one j k {n} e h single f =
-    reads_one (input j) (bytes j) (omega arith) k n (code j k e) h single (enough j k e h) (f ∙ j.before.number-at2.ensures)
+-- as many bytes as the table says are as many as the code's body has
+enough : (bytes : List ℕ) (code needed k : ℕ) → needed ≤ length bytes → needed ≡ length_or0 code → code ≡ k → known k ≡ true
+    → body_length k ≤ length bytes
+enough bytes code needed k long table e h = omega (arith, table ∙ ap length_or0 e ∙ known_length k h)
+
+-- an event of one number, where the code and the first number have been read
+one : (bytes : List ℕ) → Bytes bytes → 2 ≤ length bytes → (code needed k n : ℕ) → needed ≤ length bytes → needed ≡ length_or0 code
+    → code ≡ code_in bytes % 2 ^ 32 → code ≡ k → known k ≡ true → count k ≡ 1 → n ≡ number (take 4 (drop 2 bytes)) % 2 ^ 32
+    → event k (n ∷ []) ≡ reading bytes
+one bytes B two code needed k n long table read e h single f =
+    reads_one bytes B two k n (sym read ∙ e) h single (enough bytes code needed k long table e h) f
 
 pub returns-then-bytes-lt2 : goal.returns-then-bytes-lt2
 unfolding reading
@@ -25,63 +31,64 @@ returns-then-bytes-lt2 c = simp (lt-ltb _ 2 c.if-bytes-lt2.true)
 
 pub returns-then-bytes-needed : goal.returns-then-bytes-needed
 returns-then-bytes-needed c =
-    let input : List ℕ = c.args.bytes.now in
-    let bytes : Bytes (input) = (λ i. omega (arith, c.shared_slice_known-1.given i)) in
     let bytes = c.args.bytes.now in
-    let B : Bytes bytes = λ i. omega (arith, c.shared_slice_known-1.given i) in
-    let read : c.number_at-code.result ≡ code_in bytes = c.number_at-code.ensures ∙ code_read bytes (omega arith) in
+    let B : Bytes bytes = λ i. omega (arith, c.type_inv.bytes i) in
+    let read : c.number_at-code.result ≡ code_in bytes = c.number_at-code.ensures ∙ code_read bytes B (omega arith) in
     sym (reads_short bytes (omega arith) (omega (arith, c.body_length-needed.ensures ∙ ap length_or0 read)))
 
 pub returns-in-0 : goal.returns-in-0
 unfolding known count
-returns-in-0 c = one c 0 c.in-0.keys1 refl refl refl
+returns-in-0 c =
+    one c.args.bytes.now (λ i. omega (arith, c.type_inv.bytes i)) c.if-bytes-lt2.false _ _ 0 _ c.if-bytes-needed.false c.body_length-needed.ensures c.number_at-code.ensures c.in-0.is refl refl c.number_at-number.ensures
 
 pub returns-in-1 : goal.returns-in-1
 unfolding known count
-returns-in-1 c = one c 1 c.in-1.keys2 refl refl refl
+returns-in-1 c =
+    one c.args.bytes.now (λ i. omega (arith, c.type_inv.bytes i)) c.if-bytes-lt2.false _ _ 1 _ c.if-bytes-needed.false c.body_length-needed.ensures c.number_at-code.ensures c.in-1.is refl refl c.number_at-number.ensures
 
 pub returns-in-2 : goal.returns-in-2
 unfolding known count
-returns-in-2 c = one c 2 c.in-2.keys3 refl refl refl
+returns-in-2 c =
+    one c.args.bytes.now (λ i. omega (arith, c.type_inv.bytes i)) c.if-bytes-lt2.false _ _ 2 _ c.if-bytes-needed.false c.body_length-needed.ensures c.number_at-code.ensures c.in-2.is refl refl c.number_at-number.ensures
 
 pub returns-in-3 : goal.returns-in-3
 unfolding known count
 returns-in-3 c =
-    let input : List ℕ = c.args.bytes.now in
-    let bytes : Bytes (input) = (λ i. omega (arith, c.shared_slice_known-1.given i)) in
-    let code : (k : ℕ) → c.number_at-code.result ≡ k → code_in (input) % 2 ^ 32 ≡ k = (λ k. λ e. sym c.number_at-code.ensures ∙ e) in
-    let enough : (k : ℕ) → c.number_at-code.result ≡ k → known k ≡ true → body_length k ≤ length (input) = (λ k. λ e. λ h. omega (arith, c.body_length-needed.ensures ∙ ap length_or0 e ∙ known_length k h)) in
-    let e = c.in-3.keys4 in
-    reads_two (input) (bytes) (omega arith) 3 c.number_at-number.result c.number_at.result (code 3 e) refl refl (enough 3 e refl) c.number_at-number.ensures c.number_at.ensures
+    let bytes = c.args.bytes.now in
+    let long = enough bytes _ _ 3 c.if-bytes-needed.false c.body_length-needed.ensures c.in-3.is refl in
+    reads_two bytes (λ i. omega (arith, c.type_inv.bytes i)) c.if-bytes-lt2.false 3 _ _ (sym c.number_at-code.ensures ∙ c.in-3.is) refl refl long c.number_at-number.ensures c.number_at.ensures
 
 pub returns-in-4 : goal.returns-in-4
 unfolding known count
-returns-in-4 c = one c 4 c.in-4.keys5 refl refl refl
+returns-in-4 c =
+    one c.args.bytes.now (λ i. omega (arith, c.type_inv.bytes i)) c.if-bytes-lt2.false _ _ 4 _ c.if-bytes-needed.false c.body_length-needed.ensures c.number_at-code.ensures c.in-4.is refl refl c.number_at-number.ensures
 
 pub returns-in-6 : goal.returns-in-6
 unfolding known count
-returns-in-6 c = one c 6 c.in-6.keys6 refl refl c.new-timestamp.ensures
+returns-in-6 c =
+    one c.args.bytes.now (λ i. omega (arith, c.type_inv.bytes i)) c.if-bytes-lt2.false _ _ 6 _ c.if-bytes-needed.false c.body_length-needed.ensures c.number_at-code.ensures c.in-6.is refl refl (c.new-timestamp.ensures ∙ c.number_at-number.ensures)
 
 pub returns-in-7 : goal.returns-in-7
 unfolding known count
-returns-in-7 c = one c 7 c.in-7.keys7 refl refl c.new-timestamp.ensures
+returns-in-7 c =
+    one c.args.bytes.now (λ i. omega (arith, c.type_inv.bytes i)) c.if-bytes-lt2.false _ _ 7 _ c.if-bytes-needed.false c.body_length-needed.ensures c.number_at-code.ensures c.in-7.is refl refl (c.new-timestamp.ensures ∙ c.number_at-number.ensures)
 
 pub returns-in-31 : goal.returns-in-31
 unfolding known count
-returns-in-31 c = one c 31 c.in-31.keys8 refl refl refl
+returns-in-31 c =
+    one c.args.bytes.now (λ i. omega (arith, c.type_inv.bytes i)) c.if-bytes-lt2.false _ _ 31 _ c.if-bytes-needed.false c.body_length-needed.ensures c.number_at-code.ensures c.in-31.is refl refl c.number_at-number.ensures
 
 pub returns-in-32 : goal.returns-in-32
 unfolding known count
-returns-in-32 c = one c 32 c.in-32.keys9 refl refl refl
+returns-in-32 c =
+    one c.args.bytes.now (λ i. omega (arith, c.type_inv.bytes i)) c.if-bytes-lt2.false _ _ 32 _ c.if-bytes-needed.false c.body_length-needed.ensures c.number_at-code.ensures c.in-32.is refl refl c.number_at-number.ensures
 
 pub returns-in_default : goal.returns-in_default
 returns-in_default c =
-    let input : List ℕ = c.args.bytes.now in
-    let bytes : Bytes (input) = (λ i. omega (arith, c.shared_slice_known-1.given i)) in
-    let r = c.in_default.rest in
-    let result = c.number_at-code.result in
-    let other : known result ≡ false =
-    unknown_other result r.0.0.0.0.0.0.0.0.1 r.0.0.0.0.0.0.0.1 r.0.0.0.0.0.0.1 r.0.0.0.0.0.1 r.0.0.0.0.1 r.0.0.0.1 r.0.0.1 r.0.1 r.1
+    let bytes = c.args.bytes.now in
+    let code = c.number_at-code.result in
+    let other : known code ≡ false =
+    unknown_other code (omega arith) (omega arith) (omega arith) (omega arith) (omega arith) (omega arith) (omega arith) (omega arith) (omega arith)
     in
-    let read : result ≡ code_in (input) = c.number_at-code.ensures ∙ code_read (input) (bytes) (omega arith) in
-    sym (reads_unknown (input) (omega arith) (sym (ap known read) ∙ other))
+    let read : code ≡ code_in bytes = c.number_at-code.ensures ∙ code_read bytes (λ i. omega (arith, c.type_inv.bytes i)) c.if-bytes-lt2.false in
+    sym (reads_unknown bytes c.if-bytes-lt2.false (sym (ap known read) ∙ other))

@@ -1,17 +1,9 @@
-use Prim.Native.Nat.{ℕ, ◌-◌}
-use mathlib.Core.Bool.{Bool, false, ◌||◌}
-use mathlib.Core.List.{List}
 use mathlib.Core.Path.{sym, ◌∙◌}
 use native.Mathlib.Omega.{arith}
-use borrow.Author.Tests.{not-true, not-false}
-use lib.ListN.{length, get_or}
-use Rattle.drop_plan.specs.Check.{among, every, includes}
-use Rattle.drop_plan.proofs.Steps.{every_place, places_all, places_none}
+use lib.ListN.{length}
+use Rattle.drop_plan.specs.Check.{every, includes}
+use Rattle.drop_plan.proofs.Steps.{every_place, passes, places_all, places_none}
 use Rattle.drop_plan.proofs.judging.include.Goals as goal
-
--- a packet is droppable, or among the places
-abbrev passes : List Bool → List ℕ → ℕ → Bool
-passes marks places p = get_or marks p false || among p places
 
 pub loop-i-init : goal.loop-i-init
 unfolding includes
@@ -20,13 +12,13 @@ loop-i-init c = (omega arith, rw places_all)
 pub returns-then-not-may_pass : goal.returns-then-not-may_pass
 returns-then-not-may_pass c =
     let a = c.args in
-    let e = sym c.may_pass.ensures ∙ not-true c.may_pass.result c.if-not-may_pass.true in
+    let e = sym c.may_pass.ensures ∙ c.if-not-may_pass.true in
     sym (c.loop-i.invariant.1 ∙ every_place (passes a.droppable.now a.places.now) c.loop-i.i (length a.lengths.now) (omega arith) ∙ simp e)
 
 pub loop-i-preserved : goal.loop-i-preserved
 loop-i-preserved c =
     let a = c.args in
-    let e = sym c.may_pass.ensures ∙ not-false c.may_pass.result c.if-not-may_pass.false in
+    let e = sym c.may_pass.ensures ∙ c.if-not-may_pass.false in
     (omega arith, c.loop-i.invariant.1 ∙ every_place (passes a.droppable.now a.places.now) c.loop-i.i (length a.lengths.now) (omega arith) ∙ simp e)
 
 pub returns : goal.returns

@@ -4,6 +4,7 @@ use mathlib.Core.Path.{◌≡◌}
 use lib.ListN.{length}
 use Rattle.drop_plan.specs.Check.{every, includes}
 use Rattle.drop_plan.specs.Queue.{places_from, queue}
+use Rattle.drop_plan.proofs.Steps.{passes}
 use Rattle.drop_plan.proofs.judging.include.Given as goal
 
 abbrev pub invariant-loop-i : goal.invariant-loop-i

@@ -1,5 +1,7 @@
-use Prim.Native.Nat.{◌-◌, ◌≤◌, ◌<◌}
+-- The rest at the next place is less by the packet's length where it goes, and the search from there goes on where the rest does not fit.
+use Prim.Native.Nat.{ℕ, ◌-◌, ◌≤◌, ◌<◌}
 use mathlib.Core.Bool.{Bool, false, cond}
+use mathlib.Core.List.{List}
 use mathlib.Core.Path.{◌≡◌, sym, ap, ◌∙◌}
 use native.Mathlib.Omega.{arith}
 use borrow.Author.Tests.{le-leb, lt-leb}
@@ -10,14 +12,9 @@ use Rattle.drop_plan.proofs.Rest.{rest_next, until_next, until_none}
 use Rattle.drop_plan.proofs.keep.first_to_stay.Goals as goal
 
 -- the length that goes, by the packet's mark
-going : (j : tie.After-length-if invariant-loop decreases-loop)
-    → let l = j.before.before.before.before in
-    let a = l.before.before.before.before.args in
-    j.length-if.result ≡ cond (get_or a.droppable.now l.loop.start false) (get_or a.lengths.now l.loop.start 0) 0
-going j =
-    let l = j.before.before.before.before in
-    let a = l.before.before.before.before.args in
-    j.length-if.ensures.0 ∙ ap (λ (b : Bool). cond b (get_or a.lengths.now l.loop.start 0) 0) j.before.is-droppable.ensures
+going : {goes : ℕ} (lengths : List ℕ) (marks : List Bool) (place : ℕ) {mark : Bool} → goes ≡ cond mark (get_or lengths place 0) 0 → mark ≡ get_or marks place false
+    → goes ≡ cond (get_or marks place false) (get_or lengths place 0) 0
+going lengths marks place e m = e ∙ ap (λ (b : Bool). cond b (get_or lengths place 0) 0) m
 
 pub loop-start-init : goal.loop-start-init
 loop-start-init c =
@@ -35,15 +32,17 @@ returns-then-left-limit c =
 pub overflow_sub-left : goal.overflow_sub-left
 overflow_sub-left c =
     let a = c.args in
-    omega (arith, going c, rest_next (queue a.lengths.now a.droppable.now) c.loop-start.start (omega arith))
+    let gone = going a.lengths.now a.droppable.now c.loop-start.start c.length_if-left.ensures.0 c.is_droppable.ensures in
+    omega (arith, gone, rest_next (queue a.lengths.now a.droppable.now) c.loop-start.start (omega arith))
 
 pub loop-start-preserved : goal.loop-start-preserved
 loop-start-preserved c =
     let a = c.args in
     let q = queue a.lengths.now a.droppable.now in
     let over : a.limit < total a.lengths.now (rest q c.loop-start.start) = omega (arith, c.if-left-limit.false, c.loop-start.invariant.1) in
+    let gone = going a.lengths.now a.droppable.now c.loop-start.start c.length_if-left.ensures.0 c.is_droppable.ensures in
     let less = rest_next q c.loop-start.start (omega arith) in
-    (omega arith, omega (arith, going c), c.loop-start.invariant.2 ∙ until_next q a.limit c.loop-start.start (length a.lengths.now) (omega arith) ∙ simp (lt-leb _ _ over))
+    (omega arith, omega (arith, gone), c.loop-start.invariant.2 ∙ until_next q a.limit c.loop-start.start (length a.lengths.now) (omega arith) ∙ simp (lt-leb _ _ over))
 
 pub returns : goal.returns
 returns c =

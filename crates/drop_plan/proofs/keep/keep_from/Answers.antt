@@ -1,6 +1,4 @@
-use Prim.Native.Nat.{ℕ, ◌+◌, ◌-◌}
-use mathlib.Core.Bool.{Bool}
-use mathlib.Core.List.{List}
+use Prim.Native.Nat.{◌+◌, ◌-◌}
 use native.Mathlib.Omega.{arith}
 use lib.ListN.{length}
 use Rattle.drop_plan.specs.Plan.{rest, staying}
@@ -8,10 +6,6 @@ use Rattle.drop_plan.specs.Queue.{places_from, queue, those}
 use Rattle.drop_plan.proofs.Filling.{adds_few, fills_on, filled_up, unfilled}
 use Rattle.drop_plan.proofs.Steps.{places_all, places_next, places_none}
 use Rattle.drop_plan.proofs.keep.keep_from.Goals as goal
-
--- those from a place on that stay
-abbrev from : List ℕ → List Bool → ℕ → ℕ → List ℕ
-from lengths marks start i = those (staying marks start) (places_from i (length lengths - i))
 
 pub loop-i-init : goal.loop-i-init
 loop-i-init c =

@@ -6,12 +6,8 @@ use native.Mathlib.Omega.{arith}
 use lib.ListN.{length, get_or}
 use Rattle.drop_plan.specs.Plan.{staying}
 use Rattle.drop_plan.specs.Queue.{places_from, those, total}
-use Rattle.drop_plan.proofs.Steps.{places_all, places_next, places_none, total_those}
+use Rattle.drop_plan.proofs.Steps.{places_all, places_next, places_none, total_left, total_those}
 use Rattle.drop_plan.proofs.keep.rest_length.Goals as goal
-
--- what those from a place on that stay add up to
-abbrev from : List ℕ → List Bool → ℕ → ℕ → ℕ
-from lengths marks start i = total lengths (those (staying marks start) (places_from i (length lengths - i)))
 
 pub loop-i-init : goal.loop-i-init
 loop-i-init c =
@@ -27,7 +23,7 @@ loop-i-preserved c =
     let e : c.length_if-sum.result ≡ cond (test i) (get_or lengths i 0) 0 =
     c.length_if-sum.ensures.0 ∙ ap (λ (b : Bool). cond b (get_or lengths i 0) 0) c.stays.ensures
     in
-    let step : from lengths a.droppable.now a.start i ≡ cond (test i) (get_or lengths i 0) 0 + from lengths a.droppable.now a.start (i + 1) =
+    let step : total_left lengths a.droppable.now a.start i ≡ cond (test i) (get_or lengths i 0) 0 + total_left lengths a.droppable.now a.start (i + 1) =
     ap (λ (ps : List ℕ). total lengths (those test ps)) (places_next i (length lengths) (omega arith)) ∙ total_those lengths test i (places_from (i + 1) (length lengths - (i + 1)))
     in
     (omega arith, omega arith, omega arith)

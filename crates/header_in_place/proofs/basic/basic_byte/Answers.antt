@@ -27,7 +27,7 @@ returns-in_default c =
     let h = c.args.h in
     let b = c.args.byte in
     let rows = c.args.rows.now in
-    let read : csid (bytes_of (stage_in h) b) ≡ Incomplete = sym c.get_csid-read.ensures ∙ c.enum_told-1.given.1 in
+    let read : csid (bytes_of (stage_in h) b) ≡ Incomplete = sym c.get_csid-read.ensures ∙ c.in_default.is in
     c.keeps.ensures
     ∙ ap (λ (x : Csid). done_of h (basic_by x (setting_in h) (look rows) (reader_from h) (format_of (get_or (bytes_of (stage_in h) b) 0 0)) (kept_of (stage_in h) b))) (sym read)
     ∙ ap (λ (x : Stepped). done_of h x) (basic_at (stage_in h) (setting_in h) (look rows) (reader_from h) b (low h c.requires.1))
@@ -37,8 +37,8 @@ returns c =
     let h = c.args.h in
     let b = c.args.byte in
     let rows = c.args.rows.now in
-    let id = c.read-1.given.0.0 in
-    let read : csid (bytes_of (stage_in h) b) ≡ Id id = sym c.get_csid-read.ensures ∙ c.read-1.given.1 in
+    let id = c.in-Id.id in
+    let read : csid (bytes_of (stage_in h) b) ≡ Id id = sym c.get_csid-read.ensures ∙ c.in-Id.is in
     c.named.ensures
     ∙ ap (λ (n : ℕ). done_of h (basic_by (Id id) (setting_in h) (look rows) (reader_from h) (format_of n) (kept_of (stage_in h) b))) c.first_of-first.ensures
     ∙ ap (λ (x : Csid). done_of h (basic_by x (setting_in h) (look rows) (reader_from h) (format_of (get_or (bytes_of (stage_in h) b) 0 0)) (kept_of (stage_in h) b))) (sym read)

@@ -41,5 +41,5 @@ returns c =
     let st = step_in (meant h rows) a.byte in
     let ev : (done_of h st).event ≢ 3 = λ e. c.if-done-eq3.false (ap (λ (d : Done). d.event) done.ensures ∙ e) in
     let kept = subst (λ (d : Done). Left d.event (numbers_of d.held) (put_at rows d.place (row_from d.held.header)) (meant h rows) st) (sym done.ensures) (left_kept h rows st.reader st.event st.place ev) in
-    let left = subst (λ (l : List ℕ). Left done.result.event l c.put_at.new.0 (meant h rows) st) (sym c.numbers_of-numbers-2.ensures) (subst (λ (l : List ℕ). Left done.result.event (numbers_of done.result.held) l (meant h rows) st) (sym c.put_at.ensures) kept) in
-    subst (λ (x : Held). Left done.result.event c.numbers_of-numbers-2.result c.put_at.new.0 (meant x rows) (step_in (meant x rows) a.byte)) c.held_in-h.ensures left
+    let left = subst (λ (l : List ℕ). Left done.result.event l c.put_at.new.rows (meant h rows) st) (sym c.numbers_of-numbers-2.ensures) (subst (λ (l : List ℕ). Left done.result.event (numbers_of done.result.held) l (meant h rows) st) (sym c.put_at.ensures) kept) in
+    subst (λ (x : Held). Left done.result.event c.numbers_of-numbers-2.result c.put_at.new.rows (meant x rows) (step_in (meant x rows) a.byte)) c.held_in-h.ensures left

@@ -2,4 +2,4 @@
 use Rattle.held.proofs.numbers.held_in.Goals as goal
 
 pub returns : goal.returns
-returns c = rw (c.held_row-before.ensures, c.held_row-header.ensures, c.type_from-format.ensures, c.type_from-arg-1.given)
+returns c = rw (c.held_row-before.ensures, c.held_row-header.ensures, c.type_from-format.ensures)

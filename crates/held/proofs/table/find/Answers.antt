@@ -1,3 +1,4 @@
+-- A row passed over leaves the search to those before it, and one of the id ends it.
 use Prim.Native.Nat.{ℕ, suc, ◌-◌}
 use mathlib.Core.Path.{◌≡◌, sym, ap, ◌∙◌}
 use native.Mathlib.Omega.{arith}

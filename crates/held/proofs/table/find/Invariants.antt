@@ -1,5 +1,5 @@
 -- The invariant: the search back from the newest row is the search back from i.
-use Prim.Native.Nat.{◌≤◌, ◌-◌}
+use Prim.Native.Nat.{◌≤◌}
 use mathlib.Core.Path.{◌≡◌}
 use Rattle.fields.specs.Search.{seek_last}
 use Rattle.byte_machine.specs.Rows.{find, id_at, row_count}

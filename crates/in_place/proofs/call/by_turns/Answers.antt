@@ -16,7 +16,7 @@ pub returns-then-closed-ne0 : goal.returns-then-closed-ne0
 returns-then-closed-ne0 c =
     let a = c.args in
     let d = decode a.held.now a.rows.now in
-    lent (next d a.input.now a.payload.now) (answer_of c.refused.result) a.held.now a.rows.now a.payload.now c.renew.new.0
+    lent (next d a.input.now a.payload.now) (answer_of c.refused.result) a.held.now a.rows.now a.payload.now c.renew.new.held
     (next_closed d a.input.now a.payload.now c.if-closed-ne0.true ∙ ap (λ (x : Listed). outcome x d a.payload.now) (sym c.refused.ensures))
     c.renew.ensures
 
@@ -24,7 +24,7 @@ pub returns-then-payload-wide : goal.returns-then-payload-wide
 returns-then-payload-wide c =
     let a = c.args in
     let d = decode a.held.now a.rows.now in
-    lent (next d a.input.now a.payload.now) (answer_of c.refused-then-payload-wide.result) a.held.now a.rows.now a.payload.now c.renew-then-payload-wide.new.0
+    lent (next d a.input.now a.payload.now) (answer_of c.refused-then-payload-wide.result) a.held.now a.rows.now a.payload.now c.renew-then-payload-wide.new.held
     (next_short d a.input.now a.payload.now c.if-closed-ne0.false (omega (arith, c.if-payload-wide.true, c.wide.ensures))
     ∙ ap (λ (x : Listed). outcome x d a.payload.now) (sym c.refused-then-payload-wide.ensures))
     c.renew-then-payload-wide.ensures
@@ -34,7 +34,7 @@ returns-then-input-eq0 c =
     let a = c.args in
     let d = decode a.held.now a.rows.now in
     let room : get_or a.held.now 0 0 ≤ length a.payload.now = omega (arith, c.if-payload-wide.false, c.wide.ensures) in
-    lent (next d a.input.now a.payload.now) (more 0) a.held.now a.rows.now a.payload.now c.renew-then-input-eq0.new.0
+    lent (next d a.input.now a.payload.now) (more 0) a.held.now a.rows.now a.payload.now c.renew-then-input-eq0.new.held
     (next_runs d a.input.now a.payload.now c.if-closed-ne0.false room
     ∙ run_end d a.input.now a.payload.now 0 0 (omega (arith, c.if-input-eq0.true)))
     c.renew-then-input-eq0.ensures
@@ -45,6 +45,6 @@ returns c =
     let d = decode a.held.now a.rows.now in
     let t = c.turns in
     let room : get_or a.held.now 0 0 ≤ length a.payload.now = omega (arith, c.if-payload-wide.false, c.wide.ensures) in
-    subst (λ (o : Outcome). Lent (answer_of t.result) t.new.0 t.new.1.0 t.new.1.1.1.0 o)
+    subst (λ (o : Outcome). Lent (answer_of t.result) t.new.held t.new.rows t.new.payload o)
     (sym (next_runs d a.input.now a.payload.now c.if-closed-ne0.false room))
     t.ensures

@@ -13,7 +13,7 @@ returns-then-used-ne0 c =
     let w = c.within in
     let o = c.at_once-used in
     let no = c.if-within.false in
-    after_none (answer_of c.handed.result) o.new.0 o.new.1.0 o.new.1.1.1.0 w.new.0 a.rows.now w.new.1.1.0 a.held.now a.rows.now a.input.now a.payload.now (w.ensures.numbers no) refl (w.ensures.buffer no)
+    after_none (answer_of c.handed.result) o.new.held o.new.rows o.new.payload w.new.held a.rows.now w.new.payload a.held.now a.rows.now a.input.now a.payload.now (w.ensures.numbers no) refl (w.ensures.buffer no)
     (rw c.handed.ensures (o.ensures.taken c.if-used-ne0.true))
 
 pub returns : goal.returns
@@ -24,5 +24,5 @@ returns c =
     let t = c.by_turns in
     let no = c.if-within.false in
     let none = c.if-used-ne0.false in
-    after_none (answer_of t.result) t.new.0 t.new.1.0 t.new.1.1.1.0 w.new.0 a.rows.now w.new.1.1.0 a.held.now a.rows.now a.input.now a.payload.now (w.ensures.numbers no) refl (w.ensures.buffer no)
-    (after_none (answer_of t.result) t.new.0 t.new.1.0 t.new.1.1.1.0 o.new.0 o.new.1.0 o.new.1.1.1.0 w.new.0 a.rows.now a.input.now w.new.1.1.0 (o.ensures.numbers none) (o.ensures.table none) (o.ensures.buffer none) t.ensures)
+    after_none (answer_of t.result) t.new.held t.new.rows t.new.payload w.new.held a.rows.now w.new.payload a.held.now a.rows.now a.input.now a.payload.now (w.ensures.numbers no) refl (w.ensures.buffer no)
+    (after_none (answer_of t.result) t.new.held t.new.rows t.new.payload o.new.held o.new.rows o.new.payload w.new.held a.rows.now a.input.now w.new.payload (o.ensures.numbers none) (o.ensures.table none) (o.ensures.buffer none) t.ensures)

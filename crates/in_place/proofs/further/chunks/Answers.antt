@@ -1,3 +1,4 @@
+-- A chunk where `stops` says that there is one, and one more taken after it; none yet at the start.
 use Prim.Native.Nat.{ℕ, ◌-◌, min}
 use mathlib.Core.Path.{◌≡◌, refl, ap, ◌∙◌}
 use native.Mathlib.Omega.{arith}
@@ -47,8 +48,8 @@ loop-at-preserved c =
     let n = c.least-left in
     let t = c.take_chunk in
     let left : n.result ≡ min a.size (a.length - l.got) = n.ensures ∙ ap (λ (x : ℕ). min a.size x) c.lacking.ensures in (
-      goes_more a.size a.id a.length a.come a.input.now a.start a.payload.now (record { got = l.got; at = l.at }) n.result c.wide.result l.payload t.new.1.1.1.1.0 l.invariant.0 (c.stops.ensures c.if-stops.false) left t.ensures c.wide.ensures,
-      t.auto.1.1.1.1.0 ∙ l.invariant.1,
+      goes_more a.size a.id a.length a.come a.input.now a.start a.payload.now (record { got = l.got; at = l.at }) n.result c.wide.result l.payload t.new.payload l.invariant.0 (c.stops.ensures c.if-stops.false) left t.ensures c.wide.ensures,
+      t.auto.payload ∙ l.invariant.1,
     )
 
 pub shape_of-payload : goal.shape_of-payload

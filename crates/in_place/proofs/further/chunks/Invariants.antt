@@ -7,7 +7,7 @@ use Rattle.in_place.proofs.further.chunks.Given as goal
 
 abbrev pub invariant-loop-at : goal.invariant-loop-at
 invariant-loop-at l =
-    Goes (record { l.got = l.got; l.at = l.at }) l.size l.id l.length l.come l.input l.start l.initial.payload l.payload
+    Goes (record { got = l.got; at = l.at }) l.size l.id l.length l.come l.input l.start l.initial.payload l.payload
     × (ListN·length l.payload ≡ ListN·length l.initial.payload)
 
 abbrev pub decreases-loop-at : goal.decreases-loop-at

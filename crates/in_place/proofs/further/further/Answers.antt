@@ -50,7 +50,7 @@ returns c =
     (c.is_other.ensures c.if-is_other.false)
     g.result
     c.gone_to-numbers.result
-    g.new.1.1.1.1.1.1.0
+    g.new.payload
     g.ensures
     c.if-gone-at.false
     c.gone_to-numbers.ensures

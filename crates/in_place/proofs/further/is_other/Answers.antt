@@ -1,6 +1,6 @@
 -- Where every test is passed, the row stays where it is put over itself.
 use mathlib.Core.Path.{sym, ◌∙◌}
-use borrow.Author.Tests.{ltb-false, not-false}
+use borrow.Author.Tests.{ltb-false}
 use Rattle.fields.proofs.Tests.{never}
 use Rattle.in_place.proofs.further.is_other.Goals as goal
 
@@ -15,7 +15,7 @@ returns c =
     λ e.
     let a = c.args in
     record {
-      own = let o = c.is_own in sym o.ensures ∙ not-false o.result c.if-not-is_own.false;
+      own = let o = c.is_own in sym o.ensures ∙ c.if-not-is_own.false;
       plain = c.if-row-eq-MAX_INITIAL_TIMESTAMP.false;
       fits = ltb-false a.room a.row.length e;
     }

@@ -8,7 +8,7 @@ pub returns-then-input-at : goal.returns-then-input-at
 returns-then-input-at c = λ e. never (sym e)
 
 pub overflow_cast-input : goal.overflow_cast-input
-overflow_cast-input c = omega (arith, c.shared_slice_known-2-1.given c.args.at)
+overflow_cast-input c = omega (arith, c.type_inv.input c.args.at)
 
 pub returns-then-input-at-2 : goal.returns-then-input-at-2
 returns-then-input-at-2 c = λ e. never (sym e)

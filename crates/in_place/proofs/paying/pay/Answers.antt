@@ -38,14 +38,14 @@ returns c =
     let step : Stepped = landed (reader_from (held_in held)) n.result in
     let count : n.result ≡ min (length a.input.now) (held_in held).left = n.ensures ∙ ap (λ (x : ℕ). min (length a.input.now) x) (w.ensures ∙ ap (λ (x : Held). x.left) i.ensures) in
     let all : n.result - 0 ≡ n.result = omega arith in
-    let left : Left done.result.event numbers.result table.new.0 (decode held a.rows.now) step =
-    kept (held_in held) a.rows.now numbers.result table.new.0 done.result step
+    let left : Left done.result.event numbers.result table.new.rows (decode held a.rows.now) step =
+    kept (held_in held) a.rows.now numbers.result table.new.rows done.result step
     (done.ensures ∙ ap (λ (x : Held). done_of x (landed (reader_from x) n.result)) i.ensures)
     (landed_kept (reader_from (held_in held)) n.result)
     numbers.ensures
     table.ensures
     in
-    let buffer : bytes.new.1.0 ≡ stored a.payload.now (held_in held).got (take n.result a.input.now) =
+    let buffer : bytes.new.output ≡ stored a.payload.now (held_in held).got (take n.result a.input.now) =
     bytes.ensures
     ∙ ap (λ (x : ℕ). stored a.payload.now x (take (n.result - 0) a.input.now)) (c.wide-2.ensures ∙ ap (λ (x : Held). x.got) i.ensures)
     ∙ ap (λ (k : ℕ). stored a.payload.now (held_in held).got (take k a.input.now)) all
@@ -53,8 +53,8 @@ returns c =
     let pre = c.requires in
     let some = pre.some in
     let lacks = pre.lacks in
-    turned (record { event = done.result.event; used = n.result }) held a.rows.now a.input.now a.payload.now numbers.result table.new.0 bytes.new.1.0 step left
-    (landed_means done.result.event held a.rows.now numbers.result table.new.0 n.result left)
+    turned (record { event = done.result.event; used = n.result }) held a.rows.now a.input.now a.payload.now numbers.result table.new.rows bytes.new.output step left
+    (landed_means done.result.event held a.rows.now numbers.result table.new.rows n.result left)
     (omega (arith, count))
     (omega (arith, count))
     (λ k. stretched held a.rows.now a.input.now a.payload.now pre n.result count k ∙ (rw (← buffer)))

@@ -28,8 +28,8 @@ returns c =
     let payload = c.args.payload.now in
     let taken = c.take_byte-event in
     let not-paid = sym c.may_pay.ensures ∙ c.if-may_pay.false in
-    turned (record { event = taken.result; used = 1 }) held rows input payload taken.new.0 taken.new.1.0 payload (step_in (decode held rows) (get_or input 0 0)) taken.ensures
-    (left_means taken.result held rows taken.new.0 taken.new.1.0 (get_or input 0 0) (omega (arith, c.shared_slice_known-2-1.given 0)) taken.ensures)
+    turned (record { event = taken.result; used = 1 }) held rows input payload taken.new.held taken.new.rows payload (step_in (decode held rows) (get_or input 0 0)) taken.ensures
+    (left_means taken.result held rows taken.new.held taken.new.rows (get_or input 0 0) (omega (arith, c.type_inv.input 0)) taken.ensures)
     (omega arith)
     c.requires.0
     (λ n. ap (λ (l : List ℕ). run l (decode held rows) payload n) (byte_at input 0 c.requires.0) ∙ byte_runs held rows (get_or input 0 0) (drop 1 input) payload n not-paid)

@@ -7,11 +7,11 @@ pub returns-then-moved-ne1 : goal.returns-then-moved-ne1
 returns-then-moved-ne1 c = c.once-moved.ensures
 
 pub further-at-requires : goal.further-at-requires
-further-at-requires c = let o = c.once-moved in (o.ensures.within, omega (arith, o.ensures.room, o.auto.1.1.1.0, c.requires.1))
+further-at-requires c = let o = c.once-moved in (o.ensures.within, omega (arith, o.ensures.room, o.auto.payload, c.requires.1))
 
 pub returns : goal.returns
 returns c =
     let a = c.args in
     let o = c.once-moved in
     let f = c.further-at in
-    turned_further o.result f.result a.held.now a.rows.now a.input.now a.payload.now o.new.0 o.new.1.0 o.new.1.1.1.0 f.new.0 f.new.1.1.1.1.0 o.ensures c.if-moved-ne1.false f.ensures
+    turned_further o.result f.result a.held.now a.rows.now a.input.now a.payload.now o.new.held o.new.rows o.new.payload f.new.held f.new.payload o.ensures c.if-moved-ne1.false f.ensures

@@ -40,14 +40,14 @@ returns c =
     let bytes = c.put_bytes in
     let long = (header_at rows input).message_length in
     let same : size.result ≡ long = size.ensures ∙ ap (λ (x : HeldRow). x.length) w.header_is in
-    let buffer : bytes.new.1.0 ≡ sets payload 0 (take long (drop (1 + header_length (type_of (format_at input))) input)) =
+    let buffer : bytes.new.output ≡ sets payload 0 (take long (drop (1 + header_length (type_of (format_at input))) input)) =
     bytes.ensures
     ∙ stored_piece payload input s.start long 0 size.result 0 same refl (omega (arith, w.fits.there, w.long)) (omega (arith, w.fits.in_room, b.room))
     ∙ ap (λ (k : ℕ). sets payload 0 (take long (drop k input))) w.start_is
     in
     let count : s.start + size.result ≡ 1 + header_length (type_of (format_at input)) + long = omega (arith, same, w.start_is) in
     record {
-      taken = λ _. once_taken held rows input payload (λ i. omega (arith, c.shared_slice_known-1.given i)) b s w c.numbers_of-numbers.result c.put_at.new.0 bytes.new.1.0 (s.start + size.result) c.numbers_of-numbers.ensures c.put_at.ensures buffer count;
+      taken = λ _. once_taken held rows input payload (λ i. omega (arith, c.type_inv.input i)) b s w c.numbers_of-numbers.result c.put_at.new.rows bytes.new.output (s.start + size.result) c.numbers_of-numbers.ensures c.put_at.ensures buffer count;
       numbers = λ e. absurd (omega (arith, e, w.start_is));
       table = λ e. absurd (omega (arith, e, w.start_is));
       buffer = λ e. absurd (omega (arith, e, w.start_is));

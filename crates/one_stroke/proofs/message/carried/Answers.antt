@@ -8,21 +8,21 @@ use Rattle.one_stroke.proofs.message.carried.Goals as goal
 pub with_type-next-requires : goal.with_type-next-requires
 unfolding header_length field_length
 with_type-next-requires c =
-    let long : 12 ≤ length c.args.input.now = rw c.enum_told-1.given.1 at c.requires in
+    let long : 12 ≤ length c.args.input.now = rw c.in-Full.is at c.requires in
     omega (arith, long)
 
 pub with_type-requires : goal.with_type-requires
 unfolding header_length field_length
-with_type-requires c = rw c.enum_told-in-TimeDeltaWithoutMessageStreamId-1.given.1 at c.requires
+with_type-requires c = rw c.in-TimeDeltaWithoutMessageStreamId.is at c.requires
 
 pub returns-in-Full : goal.returns-in-Full
-returns-in-Full c = rw (c.enum_told-1.given.1, c.with_type-next.ensures, c.stream_in-stream.ensures)
+returns-in-Full c = rw (c.in-Full.is, c.with_type-next.ensures, c.stream_in-stream.ensures)
 
 pub returns-in-TimeDeltaWithoutMessageStreamId : goal.returns-in-TimeDeltaWithoutMessageStreamId
-returns-in-TimeDeltaWithoutMessageStreamId c = rw c.enum_told-in-TimeDeltaWithoutMessageStreamId-1.given.1 c.with_type.ensures
+returns-in-TimeDeltaWithoutMessageStreamId c = rw c.in-TimeDeltaWithoutMessageStreamId.is c.with_type.ensures
 
 pub returns-in-TimeDeltaOnly : goal.returns-in-TimeDeltaOnly
-returns-in-TimeDeltaOnly c = rw (c.enum_told-in-TimeDeltaOnly-1.given.1, c.time_in-field.ensures)
+returns-in-TimeDeltaOnly c = rw (c.in-TimeDeltaOnly.is, c.time_in-field.ensures)
 
 pub returns-in-Empty : goal.returns-in-Empty
-returns-in-Empty c = rw c.enum_told-in-Empty-1.given.1
+returns-in-Empty c = rw c.in-Empty.is

@@ -5,4 +5,4 @@ use mathlib.Core.Path.{◌∙◌}
 use Rattle.one_stroke.proofs.message.length_in.Goals as goal
 
 pub returns : goal.returns
-returns c = c.number_at.ensures ∙ part_fits c.args.input.now (λ i. omega (arith, c.shared_slice_known-1.given i)) 4 3 (omega arith)
+returns c = c.number_at.ensures ∙ part_fits c.args.input.now (λ i. omega (arith, c.type_inv.input i)) 4 3 (omega arith)

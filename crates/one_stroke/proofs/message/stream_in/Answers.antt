@@ -6,4 +6,4 @@ use mathlib.Core.Path.{ap, ◌∙◌}
 use Rattle.one_stroke.proofs.message.stream_in.Goals as goal
 
 pub returns : goal.returns
-returns c = c.swap_bytes.ensures ∙ ap swapped (c.number_at.ensures ∙ part_fits c.args.input.now (λ i. omega (arith, c.shared_slice_known-1.given i)) 8 4 (omega arith))
+returns c = c.swap_bytes.ensures ∙ ap swapped (c.number_at.ensures ∙ part_fits c.args.input.now (λ i. omega (arith, c.type_inv.input i)) 8 4 (omega arith))

@@ -38,4 +38,4 @@ returns c =
     ∙ ap (λ (x : Held). numbers_of (held_of (setting_in x) x.closed (paid (reader_from x) (x.got + length input) (x.left - length input)))) i.ensures
     in
     let buffer = c.put_piece.ensures ∙ ap (λ (n : ℕ). stored a.payload.now n input) (c.wide.ensures ∙ ap (λ (x : Held). x.got) i.ensures) in
-    record { taken = λ _ rows. piece_taken held rows input a.payload.now c.numbers_of-numbers.result c.put_piece.new.1.0 (w.lies rows) numbers buffer; numbers = λ e. never (sym e); buffer = λ e. never (sym e) }
+    record { taken = λ _ rows. piece_taken held rows input a.payload.now c.numbers_of-numbers.result c.put_piece.new.payload (w.lies rows) numbers buffer; numbers = λ e. never (sym e); buffer = λ e. never (sym e) }

@@ -11,34 +11,34 @@ use Rattle.protocol_control.proofs.layout.control_in.Goals as goal
 pub returns-in-SetChunkSize : goal.returns-in-SetChunkSize
 returns-in-SetChunkSize c =
     let input : List ℕ = c.args.bytes.now in
-    let bytes : Bytes (input) = (λ i. omega (arith, c.shared_slice_known-1.given i)) in
+    let bytes : Bytes (input) = (λ i. omega (arith, c.type_inv.bytes i)) in
     let read : c.number_at-number.result ≡ four (input) = c.number_at-number.ensures ∙ part_fits (input) (bytes) 0 4 (omega arith) in
-    rw (c.enum_told-1.given.1, read)
+    rw (c.in-SetChunkSize.is, read)
 
 pub returns-in-Abort : goal.returns-in-Abort
 returns-in-Abort c =
     let input : List ℕ = c.args.bytes.now in
-    let bytes : Bytes (input) = (λ i. omega (arith, c.shared_slice_known-1.given i)) in
+    let bytes : Bytes (input) = (λ i. omega (arith, c.type_inv.bytes i)) in
     let read : c.number_at-number.result ≡ four (input) = c.number_at-number.ensures ∙ part_fits (input) (bytes) 0 4 (omega arith) in
-    rw (c.enum_told-in-Abort-1.given.1, read)
+    rw (c.in-Abort.is, read)
 
 pub returns-in-Acknowledgement : goal.returns-in-Acknowledgement
 returns-in-Acknowledgement c =
     let input : List ℕ = c.args.bytes.now in
-    let bytes : Bytes (input) = (λ i. omega (arith, c.shared_slice_known-1.given i)) in
+    let bytes : Bytes (input) = (λ i. omega (arith, c.type_inv.bytes i)) in
     let read : c.number_at-number.result ≡ four (input) = c.number_at-number.ensures ∙ part_fits (input) (bytes) 0 4 (omega arith) in
-    rw (c.enum_told-in-Acknowledgement-1.given.1, read)
+    rw (c.in-Acknowledgement.is, read)
 
 pub returns-in-WindowAcknowledgement : goal.returns-in-WindowAcknowledgement
 returns-in-WindowAcknowledgement c =
     let input : List ℕ = c.args.bytes.now in
-    let bytes : Bytes (input) = (λ i. omega (arith, c.shared_slice_known-1.given i)) in
+    let bytes : Bytes (input) = (λ i. omega (arith, c.type_inv.bytes i)) in
     let read : c.number_at-number.result ≡ four (input) = c.number_at-number.ensures ∙ part_fits (input) (bytes) 0 4 (omega arith) in
-    rw (c.enum_told-in-WindowAcknowledgement-1.given.1, read)
+    rw (c.in-WindowAcknowledgement.is, read)
 
 pub returns-in-SetPeerBandwidth : goal.returns-in-SetPeerBandwidth
 returns-in-SetPeerBandwidth c =
     let input : List ℕ = c.args.bytes.now in
-    let bytes : Bytes (input) = (λ i. omega (arith, c.shared_slice_known-1.given i)) in
+    let bytes : Bytes (input) = (λ i. omega (arith, c.type_inv.bytes i)) in
     let read : c.number_at-number.result ≡ four (input) = c.number_at-number.ensures ∙ part_fits (input) (bytes) 0 4 (omega arith) in
-    rw (c.enum_told-in-SetPeerBandwidth-1.given.1, read, c.number_at.ensures, part_fits (input) (bytes) 4 1 (omega arith))
+    rw (c.in-SetPeerBandwidth.is, read, c.number_at.ensures, part_fits (input) (bytes) 4 1 (omega arith))

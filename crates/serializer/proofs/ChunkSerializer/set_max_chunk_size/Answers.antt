@@ -19,5 +19,5 @@ pub returns : goal.returns
 unfolding size_changed
 returns c =
     let size = c.args.new_size in
-    let body : c.put_number.new.1.1.0 ≡ big_endian 4 size = c.put_number.ensures ∙ stored_whole _ (big_endian 4 size) (length_big 4 size) in
+    let body : c.put_number.new.output ≡ big_endian 4 size = c.put_number.ensures ∙ stored_whole _ (big_endian 4 size) (length_big 4 size) in
     simp (ne_eqb _ _ c.if-new_size-eq0.false, le-ltb _ _ c.if-new_size-gt-LARGEST_CHUNK_SIZE.false, ← c.message-message.ensures, ← body) c.send.ensures

@@ -1,6 +1,11 @@
 -- Each part is what its function ensures.
+use borrow.Author.Rules.{rules}
 use Rattle.serializer.specs.Header.{delta}
 use Rattle.serializer.proofs.format.first_chunk.Goals as goal
+
+pub get_header_format-format-requires : goal.get_header_format-format-requires
+unfolding delta
+get_header_format-format-requires c = search rules
 
 pub returns : goal.returns
 unfolding delta

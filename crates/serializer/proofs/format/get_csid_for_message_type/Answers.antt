@@ -8,7 +8,7 @@ use Rattle.serializer.proofs.format.get_csid_for_message_type.Goals as goal
 pub returns-then-type_id-lt1 : goal.returns-then-type_id-lt1
 unfolding chunk_stream
 returns-then-type_id-lt1 c =
-    let zero : c.args.type-id ≡ 0 = omega arith in
+    let zero : c.args.type_id ≡ 0 = omega arith in
     rw zero
 
 pub returns-then-type_id-le6 : goal.returns-then-type_id-le6

@@ -8,9 +8,7 @@ use Rattle.serializer.proofs.PacketLength.{length_chunk}
 use Rattle.serializer.proofs.length.packet_bytes.Goals as goal
 
 pub overflow_add-result : goal.overflow_add-result
-overflow_add-result c =
-    let a = c.args in
-    omega (arith, c.chunk_length.ensures, head_most a.first a.header)
+overflow_add-result c = omega (arith, c.chunk_length.ensures, head_most)
 
 pub returns : goal.returns
 returns c =

@@ -17,7 +17,7 @@ add_header-next-requires c =
 pub put_payload-requires : goal.put_payload-requires
 put_payload-requires c =
     let a = c.args in
-    omega (arith, c.add_header-next.ensures.place, c.add_header-next.auto.0, c.requires.1, length_chunk a.format a.header a.payload.now)
+    omega (arith, c.add_header-next.ensures.place, c.add_header-next.auto.output, c.requires.1, length_chunk a.format a.header a.payload.now)
 
 pub overflow_add-result : goal.overflow_add-result
 overflow_add-result c =

@@ -19,12 +19,12 @@ pub add_field-at1-requires : goal.add_field-at1-requires
 add_field-at1-requires c = omega (arith, c.requires.1, length_head c.args.format c.args.header)
 
 pub add_message_header-at2-requires : goal.add_message_header-at2-requires
-add_message_header-at2-requires c = omega (arith, c.add_field-at1.ensures.place, length_big 1 c.first_byte-basic.result, c.add_field-at1.auto.0, c.requires.1, length_head c.args.format c.args.header)
+add_message_header-at2-requires c = omega (arith, c.add_field-at1.ensures.place, length_big 1 c.first_byte-basic.result, c.add_field-at1.auto.output, c.requires.1, length_head c.args.format c.args.header)
 
 pub add_extended_timestamp-requires : goal.add_extended_timestamp-requires
 add_extended_timestamp-requires c =
     let a = c.args in
-    omega (arith, c.add_field-at1.ensures.place, length_big 1 c.first_byte-basic.result, c.add_field-at1.auto.0, c.add_message_header-at2.ensures.place, c.add_message_header-at2.auto.0, length_header a.format a.header, c.requires.1, length_head a.format a.header)
+    omega (arith, c.add_field-at1.ensures.place, length_big 1 c.first_byte-basic.result, c.add_field-at1.auto.output, c.add_message_header-at2.ensures.place, c.add_message_header-at2.auto.output, length_header a.format a.header, c.requires.1, length_head a.format a.header)
 
 pub returns : goal.returns
 returns c =
@@ -37,10 +37,10 @@ returns c =
     let all = length_head a.format h in
     let ly = length_header a.format h in
     let lxy : length (xs ++ ys) ≡ length xs + length ys = length-append xs ys in
-    let first : Adds a.output.now a.at xs c.add_field-at1.result c.add_field-at1.new.0 =
+    let first : Adds a.output.now a.at xs c.add_field-at1.result c.add_field-at1.new.output =
     adds_same (ap (big_endian 1) c.first_byte-basic.ensures ∙ basic_field (type_of a.format) h.chunk_stream_id (type_lt a.format) pre.0) c.add_field-at1.ensures
     in
-    let second : Adds a.output.now a.at (xs ++ ys) c.add_message_header-at2.result c.add_message_header-at2.new.0 =
+    let second : Adds a.output.now a.at (xs ++ ys) c.add_message_header-at2.result c.add_message_header-at2.new.output =
     adds_then a.output.now xs ys first c.add_message_header-at2.ensures (omega (arith, first.place, ly, all, pre.1))
     in
     adds_same (head_bytes a.format h) (adds_then a.output.now (xs ++ ys) zs second c.add_extended_timestamp.ensures (omega (arith, second.place, lxy, ly, all, pre.1)))

@@ -8,7 +8,7 @@ use Rattle.serializer.proofs.write.add_message_length_and_type_id.Goals as goal
 pub add_field-requires : goal.add_field-requires
 add_field-requires c =
     let s = c.add_field-next in
-    omega (arith, s.ensures.place, s.auto.0, length_big 3 c.args.header.message_length, c.requires)
+    omega (arith, s.ensures.place, s.auto.output, length_big 3 c.args.header.message_length, c.requires)
 
 pub returns : goal.returns
 returns c =

@@ -1,8 +1,11 @@
+-- Each turn stores one chunk, and what is left is stored after it.
 use Prim.Native.Nat.{ℕ, ◌+◌, ◌-◌, ◌≤◌}
-use mathlib.Core.Path.{◌≡◌, refl, sym, ap, ◌∙◌}
-use mathlib.Core.List.{List, [], ◌++◌}
+use mathlib.Core.Path.{refl, sym, ap, ◌∙◌}
+use mathlib.Core.List.{List, []}
 use native.Mathlib.Omega.{arith}
 use lib.ListN.{length, take, drop, length-append, drop_of_length-le}
+use Rattle.chunk_header.specs.declared.ChunkHeader.{ChunkHeader}
+use Rattle.chunk_header.specs.declared.ChunkHeaderFormat.{ChunkHeaderFormat}
 use Rattle.chunk_header.specs.Layout.{chunk_bytes}
 use Rattle.fields.specs.Output.{stored}
 use Rattle.fields.proofs.Lists.{stored_append, stored_nil, stored_over}
@@ -10,28 +13,12 @@ use Rattle.serializer.specs.Packet.{chunk, chunked}
 use Rattle.serializer.proofs.Later.{chunked_none, chunked_piece}
 use Rattle.serializer.proofs.write.write_chunks.Goals as goal
 
-abbrev Turn : Type 0
-Turn = tie.After-least invariant-loop decreases-loop
-
-abbrev start : Turn → tie.Start invariant-loop decreases-loop
-start c = c.before.before.before.before.before.before
-
 -- the chunk of a turn, and those that are left after it
-abbrev bytes : Turn → List ℕ
-bytes c =
-    let l = c.before.before.loop in
-    chunk_bytes (chunk l.format (start c).args.first.header (take (l.from + c.least.result - l.from) (drop l.from (start c).args.payload.now)))
+abbrev bytes : ChunkHeaderFormat → ChunkHeader → (payload : List ℕ) → (from n : ℕ) → List ℕ
+bytes f h payload from n = chunk_bytes (chunk f h (take (from + n - from) (drop from payload)))
 
-abbrev rest : Turn → List ℕ
-rest c =
-    let a = (start c).args in
-    chunked a.later a.later a.first.header a.size (drop (c.before.before.loop.from + c.least.result) a.payload.now)
-
-piece : (c : Turn) → let l = c.before.before.loop in let a = (start c).args in chunked l.format a.later a.first.header a.size (drop l.from a.payload.now) ≡ bytes c ++ rest c
-piece c =
-    let l = c.before.before.loop in
-    let a = (start c).args in
-    chunked_piece l.format a.later a.first.header a.size a.payload.now l.from c.least.result l.invariant.4 c.before.loop-test.true c.least.ensures
+abbrev rest : ChunkHeaderFormat → ChunkHeader → (size : ℕ) → (payload : List ℕ) → (from n : ℕ) → List ℕ
+rest g h size payload from n = chunked g g h size (drop (from + n) payload)
 
 pub loop-from-init : goal.loop-from-init
 loop-from-init c =
@@ -44,19 +31,31 @@ least-n-requires c = tt
 pub add_chunk-at-requires : goal.add_chunk-at-requires
 add_chunk-at-requires c =
     let l = c.loop-from in
-    (l.invariant.3, omega (arith, l.invariant.1, ap length (piece c), length-append (bytes c) (rest c)))
+    let a = c.args in
+    let h = a.first.header in
+    let n = c.least-n.result in
+    let now = bytes l.format h a.payload.now l.from n in
+    let left = rest a.later h a.size a.payload.now l.from n in
+    let piece = chunked_piece l.format a.later h a.size a.payload.now l.from n l.invariant.4 c.loop-from-test.true c.least-n.ensures in
+    (l.invariant.3, omega (arith, l.invariant.1, ap length piece, length-append now left))
 
 pub loop-from-preserved : goal.loop-from-preserved
 loop-from-preserved c =
     let s = c.add_chunk-at in
     let l = c.loop-from in
-    let fits : s.result + length (rest c) ≤ length l.output = omega (arith, s.ensures.place, ap length (piece c), length-append (bytes c) (rest c), l.invariant.1) in (
-      ap (λ (o : List ℕ). stored o s.result (rest c)) s.ensures.left
-          ∙ stored_append l.output (bytes c) (rest c) l.at s.result s.ensures.place fits
-          ∙ ap (stored l.output l.at) (sym (piece c))
+    let a = c.args in
+    let h = a.first.header in
+    let n = c.least-n.result in
+    let now = bytes l.format h a.payload.now l.from n in
+    let left = rest a.later h a.size a.payload.now l.from n in
+    let piece = chunked_piece l.format a.later h a.size a.payload.now l.from n l.invariant.4 c.loop-from-test.true c.least-n.ensures in
+    let fits : s.result + length left ≤ length l.output = omega (arith, s.ensures.place, ap length piece, length-append now left, l.invariant.1) in (
+      ap (λ (o : List ℕ). stored o s.result left) s.ensures.left
+          ∙ stored_append l.output now left l.at s.result s.ensures.place fits
+          ∙ ap (stored l.output l.at) (sym piece)
           ∙ l.invariant.0,
-      omega (arith, fits, s.auto.0),
-      s.auto.0 ∙ l.invariant.2,
+      omega (arith, fits, s.auto.output),
+      s.auto.output ∙ l.invariant.2,
       l.invariant.3,
       l.invariant.4,
     )

@@ -27,7 +27,7 @@ put_payload-requires c =
     chunked_one a.first.format a.later a.first.header a.size a.payload.now c.requires.1 c.requires.2 fits) in
     let fits : let a = c.args in length a.payload.now ≤ a.size → length (chunk_bytes (chunk a.first.format a.first.header [])) + length a.payload.now ≤ length a.output.now = (λ less. let a = c.args in
     omega (arith, c.requires.3, ap length (one less), length_chunk a.first.format a.first.header a.payload.now)) in
-    omega (arith, c.add_header-at.ensures.place, c.add_header-at.auto.0, fits c.if-size-payload.false)
+    omega (arith, c.add_header-at.ensures.place, c.add_header-at.auto.output, fits c.if-size-payload.false)
 
 pub returns : goal.returns
 returns c =

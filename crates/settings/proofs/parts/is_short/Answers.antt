@@ -14,7 +14,7 @@ returns-then-length-eq0 c = simp (le-ltb _ 3 c.if-bytes-lt3.false, ← c.length_
 pub overflow_add-result : goal.overflow_add-result
 overflow_add-result c =
     let bytes = c.args.bytes.now in
-    let B : Bytes bytes = λ i. omega (arith, c.shared_slice_known-1.given i) in
+    let B : Bytes bytes = λ i. omega (arith, c.type_inv.bytes i) in
     omega (arith, length_small bytes B, c.length_in-length.ensures)
 
 pub returns : goal.returns

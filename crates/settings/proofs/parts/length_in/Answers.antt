@@ -8,5 +8,5 @@ use Rattle.settings.proofs.parts.length_in.Goals as goal
 pub returns : goal.returns
 returns c =
     let bytes = c.args.bytes.now in
-    let B : Bytes bytes = λ i. omega (arith, c.shared_slice_known-1.given i) in
+    let B : Bytes bytes = λ i. omega (arith, c.type_inv.bytes i) in
     c.number_at.ensures ∙ part_fits bytes B 0 2 (omega arith)

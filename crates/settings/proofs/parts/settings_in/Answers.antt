@@ -13,7 +13,7 @@ unfolding settings_in
 returns c =
     let bytes = c.args.bytes.now in
     let v = c.args.version in
-    let B : Bytes bytes = λ i. omega (arith, c.shared_slice_known-1.given i) in
+    let B : Bytes bytes = λ i. omega (arith, c.type_inv.bytes i) in
     let most = kind_most v in
     rw (
       c.number_at.ensures,

@@ -12,7 +12,7 @@ pub returns-then-output-needed : goal.returns-then-output-needed
 unfolding big_endian
 returns-then-output-needed c =
     let a = c.args in
-    writes_none (body_of a.code (a.stream-id ∷ [])) a.output.now (omega (arith, c.body_length-needed.ensures))
+    writes_none (body_of a.code (a.stream_id ∷ [])) a.output.now (omega (arith, c.body_length-needed.ensures))
 
 pub returns : goal.returns
 unfolding big_endian
@@ -22,5 +22,5 @@ returns c =
     let needed = c.body_length-needed.ensures in
     let code = big_endian 2 a.code in
     let first = stored_next [] code out 0 c.put_number.ensures refl refl (omega arith) in
-    writes_all (body_of a.code (a.stream-id ∷ [])) out (omega arith) (omega arith)
-    (stored_next code (big_endian 4 a.stream-id) out 2 c.put_number-2.ensures first refl (omega arith))
+    writes_all (body_of a.code (a.stream_id ∷ [])) out (omega arith) (omega arith)
+    (stored_next code (big_endian 4 a.stream_id) out 2 c.put_number-2.ensures first refl (omega arith))
