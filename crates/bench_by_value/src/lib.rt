@@ -1,6 +1,7 @@
 // The decoder's run of bench_calls by the calls that take a decoder by value and hand it back. A library of its own, so that each form
 // is compiled as for a program that has it alone.
 #![tactic(auto)]
+
 use bench_parts::{Tally, after, counted, piece_end, tell};
 use deserializer::ChunkDeserializer;
 use test_calls::used_of;

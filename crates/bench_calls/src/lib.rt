@@ -1,4 +1,5 @@
 // Whole runs of calls for bench/run, so that nothing but our own code is timed.
 #![tactic(auto)]
+
 mod decode;
 mod encode;

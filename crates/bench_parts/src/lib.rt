@@ -1,5 +1,6 @@
 // For the runs that bench/run times: parts of an input, what a run answers, and what a call of the decoder adds to it.
 #![tactic(auto)]
+
 mod answers;
 mod parts;
 mod tally;

@@ -1,6 +1,7 @@
 // Calls of the codec as several test tools make them: an encoder and a decoder that know a chunk size, what a packet says, and
 // a walk of a decoder through an input. A test tool: it is proved safe and ending, and promises nothing further.
 #![tactic(auto)]
+
 mod fresh;
 mod packets;
 mod pieces;

@@ -1,5 +1,6 @@
 // What test tools need that know no codec: parts of bytes, bytes that are read, and lines on standard output.
 #![tactic(auto)]
+
 mod input;
 mod lines;
 mod parts;

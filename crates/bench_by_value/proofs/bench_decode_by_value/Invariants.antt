@@ -1,7 +1,5 @@
 -- The place stays within the input, and grows with each call.
-use Prim.Native.Nat.{◌≤◌, ◌-◌}
-use mathlib.Core.Path.{◌≡◌}
-use lib.ListN.{length}
+use Rattle.std.proofs.Common.{◌≡◌, ◌-◌, ◌≤◌, length}
 use Rattle.bench_by_value.proofs.bench_decode_by_value.Given as goal
 
 abbrev pub invariant-loop-at : goal.invariant-loop-at

@@ -1,6 +1,5 @@
 -- `by_value::answer_all` is safe and ends. A line ends where it begins or later, so the next begins later still; the measure is what is left of the script.
-use Prim.Native.Nat.{◌≤◌, ◌-◌}
-use lib.ListN.{length}
+use Rattle.std.proofs.Common.{◌-◌, ◌≤◌, length}
 use Rattle.by_value.proofs.answer_all.Given as goal
 
 abbrev pub invariant-loop-from : goal.invariant-loop-from

@@ -1,7 +1,5 @@
 -- `script_said::hex::put_hex` is safe and ends. The index stays within the bytes and the text keeps its length; the measure is what is left of the bytes.
-use Prim.Native.Nat.{◌≤◌, ◌-◌}
-use mathlib.Core.Path.{◌≡◌}
-use lib.ListN.{length}
+use Rattle.std.proofs.Common.{◌≡◌, ◌-◌, ◌≤◌, length}
 use Rattle.script_said.proofs.hex.put_hex.Given as goal
 
 abbrev pub invariant-loop-i : goal.invariant-loop-i

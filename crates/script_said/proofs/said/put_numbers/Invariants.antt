@@ -1,7 +1,5 @@
 -- `script_said::said::put_numbers` is safe and ends. The place stays within the five numbers and the text keeps its length; the measure is what is left of the numbers.
-use Prim.Native.Nat.{◌≤◌, ◌-◌}
-use mathlib.Core.Path.{◌≡◌}
-use lib.ListN.{length}
+use Rattle.std.proofs.Common.{◌≡◌, ◌-◌, ◌≤◌, length}
 use Rattle.script_said.proofs.said.put_numbers.Given as goal
 
 abbrev pub invariant-loop-place : goal.invariant-loop-place

@@ -1,7 +1,5 @@
 -- `script_said::text::put_words` is safe and ends. The index stays within the words and the text keeps its length; the measure is what is left of the words.
-use Prim.Native.Nat.{◌≤◌, ◌-◌}
-use mathlib.Core.Path.{◌≡◌}
-use lib.ListN.{length}
+use Rattle.std.proofs.Common.{◌≡◌, ◌-◌, ◌≤◌, length}
 use Rattle.script_said.proofs.text.put_words.Given as goal
 
 abbrev pub invariant-loop-i : goal.invariant-loop-i
