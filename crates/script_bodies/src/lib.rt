@@ -1,6 +1,7 @@
 // The calls of lines that keep nothing: of the clock, of user control and protocol control bodies, and of settings. A test tool: it
 // is proved safe and ending, and promises nothing further.
 #![tactic(auto)]
+
 mod body_calls;
 mod clock_calls;
 mod control_calls;

@@ -1,6 +1,7 @@
 // The calls of lines that are made on an encoder or a decoder, which is kept from line to line. A test tool: it is proved safe and
 // ending, and promises nothing further.
 #![tactic(auto)]
+
 mod dec_calls;
 mod enc_calls;
 
