@@ -3,6 +3,8 @@ use Prim.Native.Nat.{ℕ, ◌+◌, ◌*◌, ◌/◌, ◌%◌, ◌<◌}
 use mathlib.Core.Path.{◌≡◌, ◌∙◌}
 use native.Mathlib.Omega.{arith}
 use Rattle.fields.proofs.Table.{get_d_tabulate}
+use Rattle.chunk_header.specs.declared.ChunkHeaderFormat.{ChunkHeaderFormat}
+use Rattle.chunk_header.specs.declared.HeaderField.{HeaderField}
 use Rattle.chunk_header.specs.Table.{type_of, index_of, field_length}
 use Rattle.chunk_header.proofs.Table.{type_lt, index_lt}
 use Rattle.chunk_header.proofs.field_length.Goals as goal
@@ -11,26 +13,21 @@ use Rattle.chunk_header.proofs.field_length.Goals as goal
 entry : ℕ → ℕ
 entry k = field_length (k / 4) (k % 4)
 
+-- a type and a field name one of the 16 entries
+below : (format : ChunkHeaderFormat) (field : HeaderField) (t f : ℕ) → t ≡ type_of format → f ≡ index_of field → t * 4 + f < 16
+below format field t f p q = omega (arith, p, q, type_lt format, index_lt field)
+
 pub overflow_mul-at : goal.overflow_mul-at
 overflow_mul-at c = omega (arith, c.chunk_type.ensures, type_lt c.args.format)
 
 pub overflow_add-at : goal.overflow_add-at
-overflow_add-at c =
-    let below : c.chunk_type.result * 4 + c.field_index.result < 16 = (let a = c.args in
-    omega (arith, c.chunk_type.ensures, c.field_index.ensures, type_lt a.format, index_lt a.field)) in
-    omega (arith, below)
+overflow_add-at c = omega (arith, below c.args.format c.args.field _ _ c.chunk_type.ensures c.field_index.ensures)
 
 pub offset_bounds-at : goal.offset_bounds-at
-offset_bounds-at c =
-    let below : c.chunk_type.result * 4 + c.field_index.result < 16 = (let a = c.args in
-    omega (arith, c.chunk_type.ensures, c.field_index.ensures, type_lt a.format, index_lt a.field)) in
-    omega (arith, below)
+offset_bounds-at c = omega (arith, below c.args.format c.args.field _ _ c.chunk_type.ensures c.field_index.ensures)
 
 pub bounds-at : goal.bounds-at
-bounds-at c =
-    let below : c.chunk_type.result * 4 + c.field_index.result < 16 = (let a = c.args in
-    omega (arith, c.chunk_type.ensures, c.field_index.ensures, type_lt a.format, index_lt a.field)) in
-    omega (arith, below)
+bounds-at c = below c.args.format c.args.field _ _ c.chunk_type.ensures c.field_index.ensures
 
 pub returns : goal.returns
 unfolding field_length entry

@@ -1,6 +1,6 @@
 -- Each way out knows where the plain difference lies, and these are the definition's tests; a positive number less a round fits, and
 -- so does a negative one and a round.
-use Rattle.std.proofs.Common.{◌≡◌, ℕ, suc, ◌^◌, ◌<◌, true, false, ℤ, pos, negsuc, ◌+ℤ◌, ◌-ℤ◌, neg_ℤ, ◌∙◌, arith, w64, SFits, to_z, of_z}
+use Rattle.std.proofs.Common.{◌≡◌, ℕ, suc, ◌^◌, ◌<◌, true, false, ℤ, pos, negsuc, ◌+ℤ◌, ◌-ℤ◌, neg_ℤ, ◌∙◌, arith, w64, SFits}
 use lib.Signed.{lt_z}
 use mir.ValLaws.{to_z-of_z}
 use Rattle.time.specs.Clock.{adjacent}
@@ -32,31 +32,26 @@ module _ (z : ℤ) where
 
 pub overflow_sub-result : goal.overflow_sub-result
 overflow_sub-result c =
-    let back : to_z w64 (of_z w64 c.args.plain) ≡ c.args.plain = to_z-of_z w64 c.args.plain c.ranges.plain in
-    let b = back in
+    let b = to_z-of_z w64 c.args.plain c.ranges.plain in
     rw b (less-fits c.args.plain _ _ (omega arith) (rw b at c.if-plain-gt-MAX_ADJACENT_VALUE.true) c.ranges.plain)
 
 pub returns-then-plain-gt-MAX_ADJACENT_VALUE : goal.returns-then-plain-gt-MAX_ADJACENT_VALUE
 returns-then-plain-gt-MAX_ADJACENT_VALUE c =
-    let back : to_z w64 (of_z w64 c.args.plain) ≡ c.args.plain = to_z-of_z w64 c.args.plain c.ranges.plain in
-    let b = back in
+    let b = to_z-of_z w64 c.args.plain c.ranges.plain in
     to_z-of_z w64 _ (overflow_sub-result c) ∙ rw b (above c.args.plain (rw b at c.if-plain-gt-MAX_ADJACENT_VALUE.true))
 
 pub overflow_add-result : goal.overflow_add-result
 overflow_add-result c =
-    let back : to_z w64 (of_z w64 c.args.plain) ≡ c.args.plain = to_z-of_z w64 c.args.plain c.ranges.plain in
-    let b = back in
+    let b = to_z-of_z w64 c.args.plain c.ranges.plain in
     rw b (more-fits c.args.plain _ _ (omega arith) (rw b at c.if-plain.true) c.ranges.plain)
 
 pub returns-then-plain : goal.returns-then-plain
 returns-then-plain c =
-    let back : to_z w64 (of_z w64 c.args.plain) ≡ c.args.plain = to_z-of_z w64 c.args.plain c.ranges.plain in
-    let b = back in
+    let b = to_z-of_z w64 c.args.plain c.ranges.plain in
     to_z-of_z w64 _ (overflow_add-result c)
     ∙ rw b (below c.args.plain (rw b at c.if-plain-gt-MAX_ADJACENT_VALUE.false) (rw b at c.if-plain.true))
 
 pub returns : goal.returns
 returns c =
-    let back : to_z w64 (of_z w64 c.args.plain) ≡ c.args.plain = to_z-of_z w64 c.args.plain c.ranges.plain in
-    let b = back in
+    let b = to_z-of_z w64 c.args.plain c.ranges.plain in
     rw b (within c.args.plain (rw b at c.if-plain-gt-MAX_ADJACENT_VALUE.false) (rw b at c.if-plain.false))
