@@ -1,5 +1,5 @@
 -- Past the end there is no byte; else it is the bytes that are asked for, or those that are left.
-use Rattle.std.proofs.Common.{ℕ, ◌≤◌, length, drop_of_length-le, ⊎_elim, arith}
+use Rattle.std.proofs.Common.{ℕ, ◌≤◌, length, ⊎_elim, arith, drop_of_length-le}
 use lib.Seq.{take-nil}
 use Rattle.fields.specs.Endian.{gather}
 use Rattle.fields.proofs.number_at.Goals as goal

@@ -1,5 +1,5 @@
 -- Where the output reaches far enough, the part from at on is written whole, and the rest stays.
-use Rattle.std.proofs.Common.{◌≡◌, ◌+◌, ◌<◌, length, take, drop, length-take, length-drop, arith}
+use Rattle.std.proofs.Common.{◌≡◌, ◌+◌, ◌<◌, length, take, drop, arith, length-drop, length-take}
 use native.Mathlib.Nat.{add-sub_cancel_left}
 use Rattle.fields.specs.Endian.{big_endian}
 use Rattle.fields.proofs.Endian.{length_big}

@@ -1,4 +1,4 @@
-use Rattle.std.proofs.Common.{suc, ◌≡◌, ◌≤◌, ◌-◌, ◌%◌, length, arith}
+use Rattle.std.proofs.Common.{◌≡◌, suc, ◌-◌, ◌%◌, ◌≤◌, length, arith}
 use lib.Seq.{drop-length}
 use Rattle.fields.specs.Endian.{big_endian}
 use Rattle.fields.proofs.Endian.{digit_rest, drop_set_before}
