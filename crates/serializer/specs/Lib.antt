@@ -2,6 +2,7 @@ pub mod Answer
 pub mod Header
 pub mod Message
 pub mod Packet
+pub mod Plan
 pub mod Remembered
 pub mod Serialize
 -- how long a packet is, and how many chunks

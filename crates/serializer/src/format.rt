@@ -1,5 +1,5 @@
 // Which chunk stream, which format and which time field the first chunk of a message has.
-ghost use Rattle.std.specs.Prelude.{◌≡◌, ◌-◌};
+ghost use Rattle.std.specs.Prelude.{◌≡◌, ◌-◌, ◌<◌};
 ghost use Rattle.serializer.specs.Header.{first_chunk, time_field};
 ghost use Rattle.serializer.specs.Header.{delta as Header·delta, format as Header·format};
 ghost use Rattle.serializer.specs.Packet.{later_format};
@@ -26,33 +26,24 @@ pub struct FirstChunk {
     pub header: ChunkHeader,
 }
 
+#[tactic(auto, unfolding(crate::specs::Message::chunk_stream))]
 fn get_csid_for_message_type(type_id: u8) -> u32
     ensures { result ≡ chunk_stream type_id }
 {
-    if type_id < 1 {
-        return 6;
+    match type_id {
+        1..=6 => 2,
+        18 | 19 => 3,
+        9 => 4,
+        8 => 5,
+        _ => 6,
     }
-    if type_id <= 6 {
-        return 2;
-    }
-    if type_id == 18 {
-        return 3;
-    }
-    if type_id == 19 {
-        return 3;
-    }
-    if type_id == 9 {
-        return 4;
-    }
-    if type_id == 8 {
-        return 5;
-    }
-    6
 }
 
 // Rows 0 to 4 are those of chunk streams 2 to 6.
+#[tactic(auto, using(crate::proofs::Stream::stream_range))]
 pub fn row_of(type_id: u8) -> usize
-    ensures { result ≡ chunk_stream type_id - 2 }
+    ensures row { result ≡ chunk_stream type_id - 2 }
+    ensures within { result < 5 }
 {
     (get_csid_for_message_type(type_id) - 2) as usize
 }
@@ -62,9 +53,10 @@ pub fn later_format(force_uncompressed: bool) -> ChunkHeaderFormat
     ensures { result ≡ later_format force_uncompressed }
 {
     if force_uncompressed {
-        return ChunkHeaderFormat::Full;
+        ChunkHeaderFormat::Full
+    } else {
+        ChunkHeaderFormat::Empty
     }
-    ChunkHeaderFormat::Empty
 }
 
 // The five rules, in their order.
@@ -78,22 +70,14 @@ fn get_header_format(
     requires { (csid ≡ chunk_stream message.type_id) × (delta ≡ Header·delta message previous) }
     ensures { result ≡ Header·format message previous }
 {
-    if message.force_uncompressed {
+    if message.force_uncompressed
+        || previous.chunk_stream_id != csid
+        || previous.can_be_dropped
+        || message.stream_id != previous.message_stream_id
+    {
         return ChunkHeaderFormat::Full;
     }
-    if previous.chunk_stream_id != csid {
-        return ChunkHeaderFormat::Full;
-    }
-    if previous.can_be_dropped {
-        return ChunkHeaderFormat::Full;
-    }
-    if message.stream_id != previous.message_stream_id {
-        return ChunkHeaderFormat::Full;
-    }
-    if message.type_id != previous.message_type_id {
-        return ChunkHeaderFormat::TimeDeltaWithoutMessageStreamId;
-    }
-    if message.length != previous.message_length {
+    if message.type_id != previous.message_type_id || message.length != previous.message_length {
         return ChunkHeaderFormat::TimeDeltaWithoutMessageStreamId;
     }
     if delta != previous.timestamp_field {
@@ -108,31 +92,26 @@ fn time_field(format: ChunkHeaderFormat, time: u32, delta: u32) -> u32
 {
     match format {
         ChunkHeaderFormat::Full => time,
-        ChunkHeaderFormat::TimeDeltaWithoutMessageStreamId => delta,
-        ChunkHeaderFormat::TimeDeltaOnly => delta,
-        ChunkHeaderFormat::Empty => delta,
+        _ => delta,
     }
 }
 
 // What the first chunk of the message says, after what is remembered of its stream.
+#[tactic(auto, unfolding(crate::specs::Header::delta))]
 pub fn first_chunk(message: Message, previous: ChunkHeader) -> FirstChunk
     ensures { result ≡ first_chunk message previous }
 {
     let delta = message.timestamp.subtract(previous.timestamp).value;
-    let csid = get_csid_for_message_type(message.type_id);
-    let format = get_header_format(message, csid, delta, previous);
-    let field = time_field(format, message.timestamp.value, delta);
-    let timestamp = message.timestamp;
-    FirstChunk {
-        format: format,
-        header: ChunkHeader {
-            chunk_stream_id: csid,
-            timestamp: timestamp,
-            timestamp_field: field,
-            message_length: message.length,
-            message_type_id: message.type_id,
-            message_stream_id: message.stream_id,
-            can_be_dropped: message.can_be_dropped,
-        },
-    }
+    let chunk_stream_id = get_csid_for_message_type(message.type_id);
+    let format = get_header_format(message, chunk_stream_id, delta, previous);
+    let header = ChunkHeader {
+        chunk_stream_id,
+        timestamp: message.timestamp,
+        timestamp_field: time_field(format, message.timestamp.value, delta),
+        message_length: message.length,
+        message_type_id: message.type_id,
+        message_stream_id: message.stream_id,
+        can_be_dropped: message.can_be_dropped,
+    };
+    FirstChunk { format, header }
 }

@@ -4,20 +4,18 @@ ghost use Rattle.fields.specs.Endian.{big_endian, little_endian};
 ghost use Rattle.fields.specs.Output.{Adds, over, stored};
 ghost use Rattle.chunk_header.specs.Layout.{chunk_bytes, extended_bytes, header_bytes};
 ghost use Rattle.chunk_header.specs.Table.{header_length, type_of};
-ghost use Rattle.serializer.specs.Packet.{chunk, chunked, extended, initial_time, message_header};
+ghost use Rattle.serializer.specs.Packet.{chunk, extended, initial_time, message_header};
+ghost use Rattle.serializer.specs.Plan.{bytes_of};
 
-use crate::format::FirstChunk;
+use crate::plan::Plan;
 use chunk_header::{ChunkHeader, ChunkHeaderFormat, MAX_INITIAL_TIMESTAMP, chunk_type};
-use fields::{least, put_bytes, put_number, swap_bytes};
+use fields::{put_bytes, put_number, swap_bytes};
 
 // The 24-bit field of a time.
 fn initial_timestamp(timestamp_field: u32) -> u32
     ensures { result ≡ initial_time timestamp_field }
 {
-    if timestamp_field < MAX_INITIAL_TIMESTAMP {
-        return timestamp_field;
-    }
-    MAX_INITIAL_TIMESTAMP
+    timestamp_field.min(MAX_INITIAL_TIMESTAMP)
 }
 
 // Adds a field, and answers the place after it.
@@ -137,46 +135,17 @@ fn add_chunk(
     next + payload.len()
 }
 
-// Writes the chunks of a payload at the start of the output: the first one has a format of its own.
-fn write_chunks(
-    first: FirstChunk,
-    later: ChunkHeaderFormat,
-    payload: &[u8],
-    size: usize,
-    output: &mut [u8],
-)
-    requires { (first.header.chunk_stream_id < 64) × (0 < size) × (length (chunked first.format later first.header size payload.now) ≤ length output.old) }
-    ensures { output.new ≡ over (chunked first.format later first.header size payload.now) output.old }
-{
-    let header = first.header;
-    let mut format = first.format;
-    let mut at = 0;
-    let mut from = 0;
-    while from < payload.len() {
-        let n = least(size, payload.len() - from);
-        at = add_chunk(output, at, format, header, &payload[from..from + n]);
-        format = later;
-        from += n;
+impl Plan<'_> {
+    // Writes the chunks at the start of the output.
+    pub fn write(&self, output: &mut [u8])
+        requires { length (bytes_of self.now) ≤ length output.old }
+        ensures { output.new ≡ over (bytes_of self.now) output.old }
+    {
+        let header = self.first.header;
+        let (first, rest) = self.payload.split_at(self.size.min(self.payload.len()));
+        let mut at = add_chunk(output, 0, self.first.format, header, first);
+        for piece in rest.chunks(self.size) {
+            at = add_chunk(output, at, self.later, header, piece);
+        }
     }
-}
-
-// Writes the packet of a message at the start of the output. Most messages are one chunk.
-pub fn write_packet(
-    first: FirstChunk,
-    later: ChunkHeaderFormat,
-    payload: &[u8],
-    size: usize,
-    output: &mut [u8],
-)
-    requires { (first.header.chunk_stream_id < 64) × (0 < size) × (0 < length payload.now) × (length (chunked first.format later first.header size payload.now) ≤ length output.old) }
-    ensures { output.new ≡ over (chunked first.format later first.header size payload.now) output.old }
-{
-    if size < payload.len() {
-        write_chunks(first, later, payload, size, output);
-        return;
-    }
-    let header = first.header;
-    let format = first.format;
-    let at = add_header(output, 0, format, header);
-    put_payload(payload, output, at);
 }
