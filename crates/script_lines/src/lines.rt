@@ -1,51 +1,85 @@
 // Lines of standard input.
-use crate::input::read_more;
-use crate::output::write_answers;
-use crate::state::State;
-use script_text::find;
+ghost use Rattle.script_lines.specs.declared.lines.TheConstants.{INPUT_LENGTH};
+ghost use Rattle.std.specs.Prelude.{◌+◌, ◌≤◌};
+
 use std::io;
-use test_parts::part;
+use std::io::Read;
 
 // The longest line, its end not counted.
 pub const LONGEST_LINE: usize = 262144;
 
+// What is read: the unfinished line that is kept, and at least as much more.
+pub const INPUT_LENGTH: usize = 524288;
+
 // Whether the line is empty or a comment, and not too long.
 pub fn is_skipped(line: &[u8]) -> bool {
-    if line.len() == 0 {
-        return true;
+    match line {
+        [] => true,
+        [first, ..] => *first == b'#' && line.len() <= LONGEST_LINE,
     }
-    line[0] == b'#' && line.len() <= LONGEST_LINE
 }
 
-// Reads more behind the `count` bytes of an unfinished line. Where nothing comes they are the last
-// line, with which the run is over; where it is empty it is skipped as any other.
-fn read_on(rt: &impl Input, state: State, count: usize, input: &mut [u8]) -> io::Result<State> {
-    let more = read_more(rt, state, input)?;
-    if more.end != count {
-        return Ok(more);
-    }
-    Ok(more.take_line(0, count, count).stop())
+// Lines, as they come.
+#[derive(Drop)]
+pub struct Lines {
+    bytes: [u8; INPUT_LENGTH],
+    // what was read and not taken yet
+    start: usize,
+    end: usize,
+    // how many lines were taken
+    pub taken: u64,
+    ghost in_order: { start ≤ end },
+    ghost within: { end ≤ INPUT_LENGTH },
 }
 
-// Takes a line, or reads more where there is no whole line. Answers are written before anything is
-// read. A line that is too long already is taken without its end.
-pub fn next_line(
-    rt: &(impl Input + Print),
-    state: State,
-    input: &mut [u8],
-    text: &[u8],
-) -> io::Result<State> {
-    let start = state.start;
-    let end = state.end;
-    let read = part(input, 0, end);
-    let line_end = find(read, start, b'\n');
-    if line_end < read.len() {
-        return Ok(state.take_line(start, line_end, line_end + 1));
+impl Lines {
+    // Before anything is read.
+    pub fn new() -> Self {
+        Lines {
+            bytes: [0; INPUT_LENGTH],
+            start: 0,
+            end: 0,
+            taken: 0,
+        }
     }
-    let count = part(read, start, end).len();
-    if LONGEST_LINE < count {
-        return Ok(state.take_line(start, end, end));
+
+    // The next line, where it was read to its end, or so much of it that it is too long.
+    pub fn next_line(&mut self) -> Option<&[u8]> {
+        let read = &self.bytes[self.start..self.end];
+        let (length, next) = match read.iter().position(|byte| *byte == b'\n') {
+            Some(length) => (length, self.start + length + 1),
+            None if LONGEST_LINE < read.len() => (read.len(), self.end),
+            None => return None,
+        };
+        Some(self.take(length, next))
     }
-    let written = write_answers(rt, state, text)?;
-    read_on(rt, written, count, input)
+
+    // What was read of a line with no end.
+    pub fn last_line(&mut self) -> &[u8] {
+        let next = self.end;
+        let length = next - self.start;
+        self.take(length, next)
+    }
+
+    // Takes a line of this length, behind which what is not taken yet starts at `next`.
+    fn take(&mut self, length: usize, next: usize) -> &[u8]
+        requires line { self.old.start + length ≤ next }
+        requires read { next ≤ self.old.end }
+    {
+        let start = self.start;
+        self.start = next;
+        self.taken = self.taken.wrapping_add(1);
+        let lines = &*self;
+        &lines.bytes[start..start + length]
+    }
+
+    // Reads more, once, and answers whether anything came.
+    pub fn read_more(&mut self, rt: &impl Input) -> io::Result<bool> {
+        self.bytes.copy_within(self.start..self.end, 0);
+        self.end -= self.start;
+        self.start = 0;
+        let count = rt.reader().read(&mut self.bytes[self.end..])?;
+        self.end += count;
+        Ok(count != 0)
+    }
 }
