@@ -41,6 +41,7 @@ fn refuses_12(format: ChunkHeaderFormat, inside: bool) -> bool
     inside && !is_full(format) && !is_empty(format)
 }
 
+#[tactic(auto, unfolding(chunk_meaning::specs::Meaning::basic_refusal))]
 pub fn basic_refusal(
     format: ChunkHeaderFormat,
     has_row: bool,

@@ -10,11 +10,12 @@ ghost use Rattle.held.specs.Done.{done_of};
 ghost use Rattle.settling.specs.Opened.{opened_to};
 ghost use Rattle.held.specs.Numbers.{reader_from, row_from, setting_in};
 
-use chunk_header::{ChunkHeaderFormat, HeaderField, MAX_INITIAL_TIMESTAMP, field_length};
 use crate::refusals::is_full;
+use chunk_header::{ChunkHeaderFormat, HeaderField, MAX_INITIAL_TIMESTAMP, field_length};
 use held::{Done, Held, HeldRow, goes, lacking, least, refused};
 
 // The payload of a chunk. A message of no bytes ends here.
+#[tactic(auto, unfolding(byte_machine::specs::Header::opens))]
 fn opened(h: Held, time: u32, got: u32) -> Done
     ensures { result ≡ done_of h (opened_to h time got) }
 {
@@ -55,6 +56,7 @@ fn repeats(message: HeldRow, header: HeldRow, time: u32) -> bool
 }
 
 // What is refused of a later chunk, and of a first one; 0: nothing.
+#[tactic(auto, unfolding(chunk_meaning::specs::Meaning::later_refusal))]
 fn later_refusal(h: Held, time: u32) -> u32
     ensures { result ≡ later_refusal h.format (row_from h.before) (row_from h.header) time }
 {
@@ -67,6 +69,7 @@ fn later_refusal(h: Held, time: u32) -> u32
     0
 }
 
+#[tactic(auto, unfolding(chunk_meaning::specs::Meaning::first_refusal))]
 fn first_refusal(h: Held, time: u32) -> u32
     ensures { result ≡ first_refusal h.format (row_from h.header) time h.room }
 {
@@ -102,6 +105,7 @@ fn sum(a: u32, b: u32) -> u32
 }
 
 // A header that is whole, with the number that it says of the time.
+#[tactic(auto, unfolding(byte_machine::specs::Header::whole))]
 pub fn settled(h: Held, time: u32) -> Done
     ensures { result ≡ done_of h (whole (setting_in h) (reader_from h) time) }
 {
@@ -119,6 +123,7 @@ pub fn settled(h: Held, time: u32) -> Done
     opened(h, h.before.time, h.got)
 }
 
+#[tactic(auto, unfolding(byte_machine::specs::Header::extended_next))]
 pub fn extended_next(h: Held) -> Done
     ensures { result ≡ done_of h (extended_next (setting_in h) (reader_from h)) }
 {
@@ -136,6 +141,7 @@ fn lacks(h: Held, field: HeaderField) -> u32
 }
 
 // Each field comes next, or is passed over where the format does not have it.
+#[tactic(auto, unfolding(byte_machine::specs::Header::stream_next))]
 pub fn stream_next(h: Held) -> Done
     ensures { result ≡ done_of h (stream_next (setting_in h) (reader_from h)) }
 {
@@ -146,6 +152,7 @@ pub fn stream_next(h: Held) -> Done
     goes(h, 6, 0, n)
 }
 
+#[tactic(auto, unfolding(byte_machine::specs::Header::type_next))]
 pub fn type_next(h: Held) -> Done
     ensures { result ≡ done_of h (type_next (setting_in h) (reader_from h)) }
 {
@@ -156,6 +163,7 @@ pub fn type_next(h: Held) -> Done
     goes(h, 5, 0, 0)
 }
 
+#[tactic(auto, unfolding(byte_machine::specs::Header::length_next))]
 pub fn length_next(h: Held) -> Done
     ensures { result ≡ done_of h (length_next (setting_in h) (reader_from h)) }
 {
@@ -166,6 +174,7 @@ pub fn length_next(h: Held) -> Done
     goes(h, 4, 0, n)
 }
 
+#[tactic(auto, unfolding(byte_machine::specs::Header::timestamp_next))]
 pub fn timestamp_next(h: Held) -> Done
     ensures { result ≡ done_of h (timestamp_next (setting_in h) (reader_from h)) }
 {
