@@ -10,7 +10,6 @@ use Rattle.held.specs.declared.numbers.Held.{Held}
 use Rattle.held.specs.Done.{done_of}
 use Rattle.header_in_place.specs.Byte.{Left}
 use Rattle.held.specs.Numbers.{decode, held_in, reader_from}
-use Rattle.held.proofs.Formats.{type_small}
 use Rattle.in_place.proofs.Landing.{landed_kept, landed_means, stretched}
 use Rattle.in_place.proofs.Stepping.{kept, turned}
 use Rattle.in_place.proofs.paying.pay.Goals as goal
@@ -22,7 +21,7 @@ landed-done-requires c =
     let same = ap (λ (x : Held). x.left) i.ensures in
     let room = ap (λ (x : Held). x.room) i.ensures in
     rw i.ensures
-    (type_small (get_or held 6 0), (c.requires.stage, (omega (arith, c.least-n.ensures, c.wide.ensures, same), omega (arith, c.requires.ends, i.type_inv, room))))
+    (c.requires.stage, (omega (arith, c.least-n.ensures, c.wide.ensures, same), omega (arith, c.requires.ends, i.type_inv, room)))
 
 pub returns : goal.returns
 returns c =
