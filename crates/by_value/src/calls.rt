@@ -1,5 +1,5 @@
 // The calls of a decoder that goes in by value and comes back.
-use deserializer::{Answer, ChunkDeserializer, Decoded, Telling, Told};
+use deserializer::{Answer, ChunkDeserializer, Decoded, Refusal, Told};
 use script_calls::{message, size};
 use script_said::Said;
 use script_text::read_call;
@@ -18,10 +18,10 @@ fn beside(decoder: ChunkDeserializer, said: Said) -> Made {
 }
 
 // Whether a room or a size was taken.
-fn taken(telling: Telling) -> Said {
+fn taken(telling: Result<(), Refusal>) -> Said {
     match telling {
-        Telling::Taken => Said::new(b"ok"),
-        Telling::Refused(number) => Said::refused(number as u32),
+        Ok(()) => Said::new(b"ok"),
+        Err(refusal) => Said::refused(refusal.number),
     }
 }
 
@@ -36,14 +36,11 @@ fn told(told: Told) -> Made {
 fn answered(answer: Answer) -> Said {
     match answer {
         Answer::Message {
-            type_id,
-            stream_id,
-            timestamp,
-            length,
+            message: read,
             used,
-        } => message(type_id as u32, stream_id, timestamp.value, length, used),
+        } => message(read, used),
         Answer::More { used } => Said::new(b"more").number(used as u64),
-        Answer::Refused { number, used } => Said::refused(number as u32).used(used),
+        Answer::Refused { number, used } => Said::refused(number).used(used),
     }
 }
 

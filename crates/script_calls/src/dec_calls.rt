@@ -1,14 +1,14 @@
 // The calls of the decoder, over the numbers and the table that are lent.
-use in_place::{Answer, TABLE_LENGTH, Telling};
+use in_place::{Answer, Message, Refusal, TABLE_LENGTH};
 use script_said::Said;
 use script_text::read_call;
 use test_parts::part;
 
 // Whether a room or a size was taken.
-fn told(telling: Telling) -> Said {
+fn told(telling: Result<(), Refusal>) -> Said {
     match telling {
-        Telling::Taken => Said::new(b"ok"),
-        Telling::Refused(number) => Said::refused(number),
+        Ok(()) => Said::new(b"ok"),
+        Err(refusal) => Said::refused(refusal.number),
     }
 }
 
@@ -18,24 +18,23 @@ pub fn size(size: u32) -> Said {
 }
 
 // A message: its payload is the first `length` bytes of the payload buffer.
-pub fn message(type_id: u32, stream_id: u32, time: u32, length: u32, used: usize) -> Said {
+pub fn message(message: Message, used: usize) -> Said {
     let streamed = Said::new(b"message")
-        .number(type_id as u64)
-        .number(stream_id as u64);
-    let lengthy = streamed.number(time as u64).number(length as u64);
-    lengthy.used(used).payload(length as usize)
+        .number(message.type_id as u64)
+        .number(message.stream_id as u64);
+    let lengthy = streamed
+        .number(message.timestamp.value as u64)
+        .number(message.length as u64);
+    lengthy.used(used).payload(message.length as usize)
 }
 
 // What a feed answers.
 fn answered(answer: Answer) -> Said {
     match answer {
         Answer::Message {
-            type_id,
-            stream_id,
-            timestamp,
-            length,
+            message: read,
             used,
-        } => message(type_id, stream_id, timestamp.value, length, used),
+        } => message(read, used),
         Answer::More { used } => Said::new(b"more").number(used as u64),
         Answer::Refused { number, used } => Said::refused(number).used(used),
     }

@@ -3,7 +3,7 @@ use Prim.Native.Nat.{ℕ, ◌+◌, ◌-◌}
 use mathlib.Core.Path.{sym, ap, refl, ◌∙◌}
 use mathlib.Core.List.{[]}
 use native.Mathlib.Omega.{arith}
-use lib.ListN.{get_or, length}
+use lib.ListN.{length}
 use Rattle.fields.specs.Output.{stored}
 use Rattle.fields.proofs.Tests.{never}
 use Rattle.byte_machine.specs.Payload.{paid}
