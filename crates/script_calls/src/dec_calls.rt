@@ -1,5 +1,5 @@
 // The calls of the decoder, over the numbers and the table that are lent.
-use in_place::{Answer, TABLE_LENGTH, Telling};
+use in_place::{Answer, Message, Refusal, TABLE_LENGTH};
 use script_said::{Hex, put_refused};
 use script_text::{read_hex, read_number};
 use std::fmt;
@@ -7,28 +7,30 @@ use std::fmt::Write;
 use test_parts::part;
 
 // Puts whether a room or a size was taken.
-pub fn put_told(text: &mut impl Write, telling: Telling) -> fmt::Result {
-    match telling {
-        Telling::Taken => text.write_str("ok"),
-        Telling::Refused(number) => put_refused(text, number),
+pub fn put_told(text: &mut impl Write, told: Result<(), Refusal>) -> fmt::Result {
+    match told {
+        Ok(()) => text.write_str("ok"),
+        Err(refusal) => put_refused(text, refusal.number),
     }
 }
 
 // Puts what a feed answers. A message's payload is at the start of the payload buffer.
 pub fn put_answer(text: &mut impl Write, answer: Answer, payload: &[u8]) -> fmt::Result {
     match answer {
-        Answer::Message {
-            type_id,
-            stream_id,
-            timestamp,
-            length,
-            used,
-        } => write!(
-            text,
-            "message {type_id} {stream_id} {} {length} used {used} {}",
-            timestamp.value,
-            Hex(part(payload, 0, length as usize))
-        ),
+        Answer::Message { message, used } => {
+            let Message {
+                type_id,
+                stream_id,
+                timestamp,
+                length,
+            } = message;
+            let time = timestamp.value;
+            let payload = Hex(part(payload, 0, length as usize));
+            write!(
+                text,
+                "message {type_id} {stream_id} {time} {length} used {used} {payload}"
+            )
+        }
         Answer::More { used } => write!(text, "more {used}"),
         Answer::Refused { number, used } => write!(text, "refused {number} used {used}"),
     }
