@@ -1,14 +1,18 @@
 // The calls of a decoder that goes in by value and comes back.
-use deserializer::{ChunkDeserializer, Decoded, Told};
-use script_calls::{put_answer, put_told};
+use deserializer::ChunkDeserializer;
+use script_calls::{Fed, Told};
 use script_text::{read_hex, read_number};
 use std::fmt;
 use std::fmt::Write;
 
-// After `dec new` or `dec size`: puts whether a room or a size was taken. The decoder that was handed back is in place of the last.
-fn put_back(decoder: &mut ChunkDeserializer, told: Told, text: &mut impl Write) -> fmt::Result {
+// After `dec new` or `dec size`. The decoder that was handed back is in place of the last.
+fn put_told(
+    decoder: &mut ChunkDeserializer,
+    told: deserializer::Told,
+    text: &mut impl Write,
+) -> fmt::Result {
     *decoder = told.deserializer;
-    put_told(text, told.telling)
+    write!(text, "{}", Told(told.telling))
 }
 
 // Makes the call `dec feed`.
@@ -18,12 +22,10 @@ fn feed(
     payload: &mut [u8],
     text: &mut impl Write,
 ) -> fmt::Result {
-    let Decoded {
-        deserializer,
-        answer,
-    } = decoder.get_next_message(piece, payload);
-    *decoder = deserializer;
-    put_answer(text, answer, payload)
+    let decoded = decoder.get_next_message(piece, payload);
+    *decoder = decoded.deserializer;
+    let answer = decoded.answer;
+    write!(text, "{}", Fed { answer, payload })
 }
 
 // Makes the call that the words are, and puts its answer; none where they are no call. More payload buffer than there is cannot be
@@ -37,7 +39,8 @@ pub fn make(
 ) -> Option<()> {
     match *words {
         ["dec", "new", room] => {
-            put_back(decoder, ChunkDeserializer::new(read_number(room)?), text).ok()
+            let told = ChunkDeserializer::new(read_number(room)?);
+            put_told(decoder, told, text).ok()
         }
         ["dec", "feed", buffer, hex] => {
             let lent = payload.get_mut(..read_number(buffer)?)?;
@@ -45,7 +48,7 @@ pub fn make(
         }
         ["dec", "size", size] => {
             let told = decoder.set_max_chunk_size(read_number(size)?);
-            put_back(decoder, told, text).ok()
+            put_told(decoder, told, text).ok()
         }
         ["dec", "size?"] => write!(text, "size {}", decoder.get_max_chunk_size()).ok(),
         _ => None,

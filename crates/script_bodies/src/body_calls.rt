@@ -1,6 +1,6 @@
 // The calls of protocol control bodies.
 use protocol_control::{Deserialized, Kind, ProtocolControl, Serialized};
-use script_said::{put_refused, put_written};
+use script_said::{Refused, Written};
 use script_text::{read_hex, read_number};
 use std::fmt;
 use std::fmt::Write;
@@ -36,19 +36,19 @@ fn kind_of(name: &str) -> Option<Kind> {
 fn read(kind: Kind, body: &[u8], text: &mut impl Write) -> fmt::Result {
     match protocol_control::deserialize(kind, body) {
         Deserialized::Control(control) => put_control(text, control),
-        Deserialized::BodyTooShort => put_refused(text, 15),
-        Deserialized::OutOfLimits => put_refused(text, 16),
+        Deserialized::BodyTooShort => write!(text, "{}", Refused(15)),
+        Deserialized::OutOfLimits => write!(text, "{}", Refused(16)),
     }
 }
 
 // Makes the call `body write`.
 fn write(control: ProtocolControl, output: &mut [u8], text: &mut impl Write) -> fmt::Result {
-    let written = match protocol_control::serialize(control, output) {
+    let count = match protocol_control::serialize(control, output) {
         Serialized::Written(count) => Ok(count),
         Serialized::OutOfLimits => Err(16),
         Serialized::OutputTooShort => Err(5),
     };
-    put_written(text, written, output)
+    write!(text, "{}", Written { count, output })
 }
 
 // The body that the words name.

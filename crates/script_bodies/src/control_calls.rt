@@ -1,5 +1,5 @@
 // The calls of user control bodies.
-use script_said::{put_refused, put_written};
+use script_said::{Refused, Written};
 use script_text::{read_hex, read_number};
 use std::fmt;
 use std::fmt::Write;
@@ -28,18 +28,18 @@ fn put_event(text: &mut impl Write, event: UserControlEvent) -> fmt::Result {
 fn read(body: &[u8], text: &mut impl Write) -> fmt::Result {
     match user_control::deserialize(body) {
         Deserialized::Event(event) => put_event(text, event),
-        Deserialized::BodyTooShort => put_refused(text, 15),
-        Deserialized::UnknownCode => put_refused(text, 16),
+        Deserialized::BodyTooShort => write!(text, "{}", Refused(15)),
+        Deserialized::UnknownCode => write!(text, "{}", Refused(16)),
     }
 }
 
 // Makes the call `control write`.
 fn write(event: UserControlEvent, output: &mut [u8], text: &mut impl Write) -> fmt::Result {
-    let written = match user_control::serialize(event, output) {
+    let count = match user_control::serialize(event, output) {
         Serialized::Written(count) => Ok(count),
         Serialized::OutputTooShort => Err(5),
     };
-    put_written(text, written, output)
+    write!(text, "{}", Written { count, output })
 }
 
 // The event of the name with its number, a stream id or a timestamp.

@@ -1,5 +1,5 @@
 // The calls of settings.
-use script_said::{put_refused, put_written};
+use script_said::{Refused, Written};
 use script_text::{read_hex, read_number};
 use settings::{Reading, Settings, Version, Writing};
 use std::fmt;
@@ -22,10 +22,10 @@ fn read(reader: Version, bytes: &[u8], text: &mut impl Write) -> fmt::Result {
             "settings {} {} {} used {used}",
             settings.max_chunk_size, settings.room, settings.camera_kind
         ),
-        Reading::TooShort => put_refused(text, 25),
-        Reading::UnknownVersion(_) => put_refused(text, 26),
-        Reading::WrongLength => put_refused(text, 27),
-        Reading::OutOfLimits => put_refused(text, 28),
+        Reading::TooShort => write!(text, "{}", Refused(25)),
+        Reading::UnknownVersion(_) => write!(text, "{}", Refused(26)),
+        Reading::WrongLength => write!(text, "{}", Refused(27)),
+        Reading::OutOfLimits => write!(text, "{}", Refused(28)),
     }
 }
 
@@ -36,12 +36,12 @@ fn write(
     output: &mut [u8],
     text: &mut impl Write,
 ) -> fmt::Result {
-    let written = match settings::write(version, settings, output) {
+    let count = match settings::write(version, settings, output) {
         Writing::Written(count) => Ok(count),
         Writing::OutOfLimits => Err(28),
         Writing::OutputTooShort => Err(5),
     };
-    put_written(text, written, output)
+    write!(text, "{}", Written { count, output })
 }
 
 // Makes the call that the words are, and puts its answer; none where they are no call. More output than there is cannot be lent.

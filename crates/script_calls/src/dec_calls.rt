@@ -1,38 +1,52 @@
 // The calls of the decoder, over the numbers and the table that are lent.
 use in_place::{Answer, Message, Refusal, TABLE_LENGTH};
-use script_said::{Hex, put_refused};
+use script_said::{Hex, Refused};
 use script_text::{read_hex, read_number};
 use std::fmt;
 use std::fmt::Write;
 use test_parts::part;
 
-// Puts whether a room or a size was taken.
-pub fn put_told(text: &mut impl Write, told: Result<(), Refusal>) -> fmt::Result {
-    match told {
-        Ok(()) => text.write_str("ok"),
-        Err(refusal) => put_refused(text, refusal.number),
+// Whether a room or a size was taken.
+#[derive(Clone, Copy)]
+pub struct Told(pub Result<(), Refusal>);
+
+impl fmt::Display for Told {
+    fn fmt<W: Write>(&self, f: &mut fmt::Formatter<W>) -> fmt::Result {
+        match self.0 {
+            Ok(()) => f.write_str("ok"),
+            Err(refusal) => write!(f, "{}", Refused(refusal.number)),
+        }
     }
 }
 
-// Puts what a feed answers. A message's payload is at the start of the payload buffer.
-pub fn put_answer(text: &mut impl Write, answer: Answer, payload: &[u8]) -> fmt::Result {
-    match answer {
-        Answer::Message { message, used } => {
-            let Message {
-                type_id,
-                stream_id,
-                timestamp,
-                length,
-            } = message;
-            let time = timestamp.value;
-            let payload = Hex(part(payload, 0, length as usize));
-            write!(
-                text,
-                "message {type_id} {stream_id} {time} {length} used {used} {payload}"
-            )
+// What a feed answers, and the payload buffer: a message's payload is at its start.
+#[derive(Clone, Copy)]
+pub struct Fed<'a> {
+    pub answer: Answer,
+    pub payload: &'a [u8],
+}
+
+impl fmt::Display for Fed<'_> {
+    fn fmt<W: Write>(&self, f: &mut fmt::Formatter<W>) -> fmt::Result {
+        let Fed { answer, payload } = *self;
+        match answer {
+            Answer::Message { message, used } => {
+                let Message {
+                    type_id,
+                    stream_id,
+                    timestamp,
+                    length,
+                } = message;
+                let time = timestamp.value;
+                let payload = Hex(part(payload, 0, length as usize));
+                write!(
+                    f,
+                    "message {type_id} {stream_id} {time} {length} used {used} {payload}"
+                )
+            }
+            Answer::More { used } => write!(f, "more {used}"),
+            Answer::Refused { number, used } => write!(f, "{} used {used}", Refused(number)),
         }
-        Answer::More { used } => write!(text, "more {used}"),
-        Answer::Refused { number, used } => write!(text, "refused {number} used {used}"),
     }
 }
 
@@ -47,14 +61,18 @@ pub fn make_dec(
     text: &mut impl Write,
 ) -> Option<()> {
     match *words {
-        ["dec", "new", room] => put_told(text, in_place::make(held, rows, read_number(room)?)).ok(),
+        ["dec", "new", room] => {
+            let told = in_place::make(held, rows, read_number(room)?);
+            write!(text, "{}", Told(told)).ok()
+        }
         ["dec", "feed", buffer, hex] => {
-            let lent = payload.get_mut(..read_number(buffer)?)?;
-            let answer = in_place::next_message(held, rows, read_hex(hex, bytes)?, lent);
-            put_answer(text, answer, lent).ok()
+            let payload = payload.get_mut(..read_number(buffer)?)?;
+            let answer = in_place::next_message(held, rows, read_hex(hex, bytes)?, payload);
+            write!(text, "{}", Fed { answer, payload }).ok()
         }
         ["dec", "size", size] => {
-            put_told(text, in_place::set_max_chunk_size(held, read_number(size)?)).ok()
+            let told = in_place::set_max_chunk_size(held, read_number(size)?);
+            write!(text, "{}", Told(told)).ok()
         }
         ["dec", "size?"] => write!(text, "size {}", in_place::get_max_chunk_size(held)).ok(),
         _ => None,

@@ -1,5 +1,5 @@
 // The calls of the encoder.
-use script_said::{put_refused, put_written};
+use script_said::{Refused, Written};
 use script_text::{read_flag, read_hex, read_number};
 use serializer::{ChunkSerializer, PacketError, Serialized};
 use std::fmt;
@@ -37,8 +37,10 @@ fn put_packet(
     output: &[u8],
     text: &mut impl Write,
 ) -> fmt::Result {
-    *encoder = serialized.serializer;
-    put_written(text, serialized.packet.map_err(PacketError::number), output)
+    let Serialized { serializer, packet } = serialized;
+    *encoder = serializer;
+    let count = packet.map_err(PacketError::number);
+    write!(text, "{}", Written { count, output })
 }
 
 // Makes the call `enc msg`.
@@ -78,7 +80,7 @@ fn measure(
     );
     match length {
         Ok(count) => write!(text, "length {count}"),
-        Err(error) => put_refused(text, error.number()),
+        Err(error) => write!(text, "{}", Refused(error.number())),
     }
 }
 

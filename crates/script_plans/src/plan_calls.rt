@@ -1,7 +1,7 @@
 // The calls of the planner and of its check.
 use crate::queues::{Count, read_places, read_queue, write_places};
 use drop_plan::{Plan, Proposal, Verdict};
-use script_said::{Hex, put_refused};
+use script_said::{Hex, Refused};
 use script_text::{read_hex, read_number};
 use std::fmt;
 use std::fmt::Write;
@@ -26,7 +26,7 @@ fn put_proposal(text: &mut impl Write, proposal: Proposal, output: &mut [u8]) ->
     match proposal.plan {
         Plan::Keep(count) => put_kept(text, count, output),
         Plan::Cannot => text.write_str("can't"),
-        Plan::Refused(number) => put_refused(text, number as u32),
+        Plan::Refused(number) => write!(text, "{}", Refused(number as u32)),
     }
 }
 
@@ -34,7 +34,7 @@ fn put_proposal(text: &mut impl Write, proposal: Proposal, output: &mut [u8]) ->
 fn put_verdict(text: &mut impl Write, verdict: Verdict) -> fmt::Result {
     match verdict {
         Verdict::Accepted => text.write_str("accepted"),
-        Verdict::Refused(number) => put_refused(text, number as u32),
+        Verdict::Refused(number) => write!(text, "{}", Refused(number as u32)),
     }
 }
 

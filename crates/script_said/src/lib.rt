@@ -1,11 +1,13 @@
-// What lines answer: text that waits to be written, bytes in hex, and what a call that writes bytes answers. It knows no codec. A
-// test tool: it is proved safe and ending, and promises little further.
+// What lines answer: the text that waits to be written, and how bytes, bytes that were written and refusals stand in it. It knows no
+// codec. A test tool: it is proved safe and ending, and promises of a text what is put into it.
 #![tactic(auto)]
 
 mod hex;
+mod refused;
 mod text;
 mod written;
 
 pub use crate::hex::Hex;
+pub use crate::refused::Refused;
 pub use crate::text::Text;
-pub use crate::written::{put_refused, put_written};
+pub use crate::written::Written;

@@ -1,5 +1,5 @@
 // The text of answers, in a buffer of fixed length.
-ghost use Rattle.std.specs.Prelude.{◌≡◌, ℕ, ◌≤◌, List, [], take};
+ghost use Rattle.std.specs.Prelude.{◌≡◌, ℕ, ◌≤◌, List, [], ◌++◌, take};
 
 use std::fmt;
 use std::fmt::Write;
@@ -48,12 +48,14 @@ impl<const N: usize> Text<N> {
 }
 
 impl<const N: usize> Write for Text<N> {
+    ghost write_str_gives = { λ before words after. after ≡ take N (before ++ words) };
+
     fn write_str(&mut self, s: &str) -> fmt::Result {
         let words = s.as_bytes();
-        let room = &mut self.bytes[..][self.filled..];
-        let count = words.len().min(room.len());
-        room[..count].copy_from_slice(&words[..count]);
-        self.filled += count;
+        let count = words.len().min(N - self.filled);
+        let end = self.filled + count;
+        self.bytes[..][self.filled..end].copy_from_slice(&words[..count]);
+        self.filled = end;
         Ok(())
     }
 }

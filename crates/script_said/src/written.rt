@@ -1,22 +1,22 @@
-// What calls answer of bytes that they write, and of refusals.
+// What calls that write bytes answer.
 use crate::hex::Hex;
+use crate::refused::Refused;
 use std::fmt;
 use std::fmt::Write;
 use test_parts::part;
 
-// Puts what a call that is refused answers, the number of the refusal.
-pub fn put_refused(text: &mut impl Write, number: u32) -> fmt::Result {
-    write!(text, "refused {number}")
+// How many bytes were written, the first of the output, or the number of a refusal.
+#[derive(Clone, Copy)]
+pub struct Written<'a> {
+    pub count: Result<usize, u32>,
+    pub output: &'a [u8],
 }
 
-// Puts what a call that writes answers: how many bytes it wrote, and which, at the start of the output, or the number of a refusal.
-pub fn put_written(
-    text: &mut impl Write,
-    written: Result<usize, u32>,
-    output: &[u8],
-) -> fmt::Result {
-    match written {
-        Ok(count) => write!(text, "wrote {count} {}", Hex(part(output, 0, count))),
-        Err(number) => put_refused(text, number),
+impl fmt::Display for Written<'_> {
+    fn fmt<W: Write>(&self, f: &mut fmt::Formatter<W>) -> fmt::Result {
+        match self.count {
+            Ok(count) => write!(f, "wrote {count} {}", Hex(part(self.output, 0, count))),
+            Err(number) => write!(f, "{}", Refused(number)),
+        }
     }
 }
