@@ -8,16 +8,10 @@ use test_parts::part;
 pub fn counted(tally: Tally, answer: Answer, payload: &[u8], every: usize) -> Tally {
     let called = tally.called(used_of(answer));
     match answer {
-        Answer::Message {
-            type_id,
-            stream_id,
-            timestamp,
-            length,
-            used: _,
-        } => {
-            let of_whom = mix(mix(called.sum, type_id), stream_id);
-            let of_what = mix(mix(of_whom, timestamp.value), length);
-            let bytes = part(payload, 0, length as usize);
+        Answer::Message { message, used: _ } => {
+            let of_whom = mix(mix(called.sum, message.type_id), message.stream_id);
+            let of_what = mix(mix(of_whom, message.timestamp.value), message.length);
+            let bytes = part(payload, 0, message.length as usize);
             called.message(probe(of_what, bytes, every))
         }
         Answer::More { used: _ } => called,

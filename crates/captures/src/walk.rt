@@ -2,7 +2,7 @@
 use crate::hash::print_hash;
 use crate::sha256::sha256;
 use fields::number_at;
-use in_place::{Answer, TABLE_LENGTH, make, set_max_chunk_size};
+use in_place::{Answer, Message, TABLE_LENGTH, make, set_max_chunk_size};
 use std::io;
 use test_calls::{Cut, Walk, may_tell, next_answer};
 use test_parts::{part, print, print_line, print_numbered};
@@ -13,16 +13,10 @@ const ROOM: u32 = 65536;
 const TURNS: usize = 100000;
 
 // Writes a message as the listings have it.
-fn print_message(
-    rt: &impl Print,
-    type_id: u32,
-    stream_id: u32,
-    time: u32,
-    payload: &[u8],
-) -> io::Result<()> {
-    print_numbered(rt, b"", type_id as u64)?;
-    print_numbered(rt, b" ", stream_id as u64)?;
-    print_numbered(rt, b" ", time as u64)?;
+fn print_message(rt: &impl Print, message: Message, payload: &[u8]) -> io::Result<()> {
+    print_numbered(rt, b"", message.type_id as u64)?;
+    print_numbered(rt, b" ", message.stream_id as u64)?;
+    print_numbered(rt, b" ", message.timestamp.value as u64)?;
     print_numbered(rt, b" ", payload.len() as u64)?;
     print(rt, b" ")?;
     print_hash(rt, sha256(payload))?;
@@ -50,16 +44,10 @@ fn take_answer(
     payload: &[u8],
 ) -> io::Result<Walk> {
     match answer {
-        Answer::Message {
-            type_id,
-            stream_id,
-            timestamp,
-            length,
-            used: _,
-        } => {
-            let message = part(payload, 0, length as usize);
-            print_message(rt, type_id, stream_id, timestamp.value, message)?;
-            Ok(take_message(so_far, held, type_id, message))
+        Answer::Message { message, used: _ } => {
+            let bytes = part(payload, 0, message.length as usize);
+            print_message(rt, message, bytes)?;
+            Ok(take_message(so_far, held, message.type_id, bytes))
         }
         Answer::More { used: _ } => Ok(so_far),
         Answer::Refused { number, used: _ } => {
@@ -125,7 +113,7 @@ pub fn walk_through(
 ) -> io::Result<()> {
     let mut held = [0u32; 24];
     let mut rows = [0u32; TABLE_LENGTH];
-    make(&mut held, &mut rows, ROOM);
+    let _ = make(&mut held, &mut rows, ROOM);
     let start = Walk::new(cut);
     let end = walk_all(rt, start, &mut held, &mut rows, capture, payload)?;
     print_end(rt, end.used, capture.len(), may_tell(&mut held))

@@ -9,7 +9,7 @@ ghost use Rattle.one_stroke.specs.Lent.{Lent};
 ghost use Rattle.in_place.specs.Answer.{LentSize, answer_of, size_of};
 ghost use Rattle.deserializer.specs.Meant.{meant};
 
-pub use in_place::{Answer, Telling};
+pub use in_place::{Answer, Message, Refusal};
 use in_place::{TABLE_LENGTH, get_max_chunk_size, make, next_message, set_max_chunk_size};
 
 // A decoder: the 24 numbers that it holds, and the table of rows.
@@ -30,7 +30,7 @@ pub struct Decoded {
 #[derive(Clone, Copy)]
 pub struct Told {
     pub deserializer: ChunkDeserializer,
-    pub telling: Telling,
+    pub telling: Result<(), Refusal>,
 }
 
 impl ChunkDeserializer {
@@ -42,11 +42,8 @@ impl ChunkDeserializer {
         let mut rows = [0; TABLE_LENGTH];
         let telling = make(&mut held, &mut rows, room);
         Told {
-            deserializer: ChunkDeserializer {
-                held: held,
-                rows: rows,
-            },
-            telling: telling,
+            deserializer: ChunkDeserializer { held, rows },
+            telling,
         }
     }
 
@@ -59,11 +56,8 @@ impl ChunkDeserializer {
         let mut rows = self.rows;
         let answer = next_message(&mut held, &mut rows, input, payload);
         Decoded {
-            deserializer: ChunkDeserializer {
-                held: held,
-                rows: rows,
-            },
-            answer: answer,
+            deserializer: ChunkDeserializer { held, rows },
+            answer,
         }
     }
 
@@ -75,11 +69,8 @@ impl ChunkDeserializer {
         let rows = self.rows;
         let telling = set_max_chunk_size(&mut held, new_size);
         Told {
-            deserializer: ChunkDeserializer {
-                held: held,
-                rows: rows,
-            },
-            telling: telling,
+            deserializer: ChunkDeserializer { held, rows },
+            telling,
         }
     }
 

@@ -15,15 +15,10 @@ fn say(rt: &impl Print, words: &[u8], number: u64) -> io::Result<()> {
 fn tell(rt: &impl Print, decoded: Decoded) -> io::Result<ChunkDeserializer> {
     let answer = decoded.answer;
     match answer {
-        Answer::Message {
-            type_id,
-            timestamp,
-            length,
-            ..
-        } => {
-            say(rt, b"message of type ", type_id as u64)?;
-            say(rt, b" at ", timestamp.value as u64)?;
-            say(rt, b" with bytes: ", length as u64)?;
+        Answer::Message { message, .. } => {
+            say(rt, b"message of type ", message.type_id as u64)?;
+            say(rt, b" at ", message.timestamp.value as u64)?;
+            say(rt, b" with bytes: ", message.length as u64)?;
         }
         Answer::More { used } => say(rt, b"more wanted, used ", used as u64)?,
         Answer::Refused { number, .. } => say(rt, b"refused with ", number as u64)?,

@@ -10,7 +10,7 @@ use lib.ListN.{get_or}
 use borrow.Author.Tests.{lt-ltb, le-ltb}
 use Rattle.chunk_header.specs.declared.ChunkHeaderFormat.{ChunkHeaderFormat}
 use Rattle.chunk_header.specs.Basic.{csid}
-use Rattle.chunk_header.specs.Table.{format_of, type_of}
+use Rattle.chunk_header.specs.Table.{format_of}
 use Rattle.chunk_meaning.specs.Meaning.{basic_refusal}
 use Rattle.byte_machine.specs.Reader.{Reader, Stage, Csid, CsidSecond, CsidThird, InitialTimestamp, MessageLength, MessageTypeId, MessageStreamId, ExtendedTimestamp, MessagePayload, Stepped, refuse}
 use Rattle.byte_machine.specs.Rows.{find, free, row_at, row_count}
@@ -18,21 +18,17 @@ use Rattle.byte_machine.specs.Step.{basic_by, claims, known, named, stepped}
 use Rattle.byte_machine.proofs.Naming.{named_refused, named_known, named_claims}
 use Rattle.held.specs.declared.numbers.Held.{Held}
 use Rattle.held.specs.Done.{done_of}
-use Rattle.held.specs.Numbers.{code_of, format_from, reader_from, setting_in, stage_from}
-use Rattle.held.proofs.Formats.{from_again}
+use Rattle.held.specs.Numbers.{code_of, reader_from, setting_in, stage_from}
 use Rattle.header_in_place.specs.Byte.{bytes_of, kept_of}
 use Rattle.chunk_meaning.proofs.Unrefused.{with_row}
 use Rattle.byte_machine.specs.Setting.{Setting}
 use Rattle.byte_machine.specs.Look.{look, Look}
 
-module _ (h : Held) (rows : List ℕ) (first id format place k : ℕ) (t : format ≡ type_of (format_of first)) (p : place ≡ find rows id) where
+module _ (h : Held) (rows : List ℕ) (first : ℕ) (format : ChunkHeaderFormat) (same_format : format ≡ format_of first) (id place k : ℕ) (p : place ≡ find rows id) where
   abbrev said : Stepped
   said = named (setting_in h) (look rows id) (reader_from h) (format_of first) id
 
-  same_format : format_from format ≡ format_of first
-  same_format = ap (λ (n : ℕ). format_from n) t ∙ from_again (format_of first)
-
-  module _ (e : k ≡ basic_refusal (format_from format) true true (not (eqb h.id 0)) (eqb h.id id)) (there : place < row_count) where
+  module _ (e : k ≡ basic_refusal format true true (not (eqb h.id 0)) (eqb h.id id)) (there : place < row_count) where
     of_row : k ≡ basic_refusal (format_of first) (ltb place row_count) (ltb (free rows) row_count) (not (eqb h.id 0)) (eqb h.id id)
     of_row =
         e
@@ -43,12 +39,12 @@ module _ (h : Held) (rows : List ℕ) (first id format place k : ℕ) (t : forma
     pub row_refused : k ≢ 0 → done_of h (refuse (reader_from h) k) ≡ done_of h said
     row_refused n = ap (λ (s : Stepped). done_of h s) (named_refused (setting_in h) rows (reader_from h) (format_of first) id place (free rows) k p refl of_row n)
 
-    pub row_known : k ≡ 0 → done_of h (known (setting_in h) (reader_from h) (format_from format) (row_at rows place) place) ≡ done_of h said
+    pub row_known : k ≡ 0 → done_of h (known (setting_in h) (reader_from h) format (row_at rows place) place) ≡ done_of h said
     row_known z =
         ap (λ (f : ChunkHeaderFormat). done_of h (known (setting_in h) (reader_from h) f (row_at rows place) place)) same_format
         ∙ ap (λ (s : Stepped). done_of h s) (named_known (setting_in h) rows (reader_from h) (format_of first) id place (free rows) k p refl of_row z there)
 
-  module _ (unused : ℕ) (u : unused ≡ free rows) (e : k ≡ basic_refusal (format_from format) false (ltb unused row_count) (not (eqb h.id 0)) (eqb h.id id)) (none : row_count ≤ place) where
+  module _ (unused : ℕ) (u : unused ≡ free rows) (e : k ≡ basic_refusal format false (ltb unused row_count) (not (eqb h.id 0)) (eqb h.id id)) (none : row_count ≤ place) where
     of_none : k ≡ basic_refusal (format_of first) (ltb place row_count) (ltb unused row_count) (not (eqb h.id 0)) (eqb h.id id)
     of_none =
         e
@@ -58,7 +54,7 @@ module _ (h : Held) (rows : List ℕ) (first id format place k : ℕ) (t : forma
     pub new_refused : k ≢ 0 → done_of h (refuse (reader_from h) k) ≡ done_of h said
     new_refused n = ap (λ (s : Stepped). done_of h s) (named_refused (setting_in h) rows (reader_from h) (format_of first) id place unused k p u of_none n)
 
-    pub new_claims : k ≡ 0 → done_of h (claims (reader_from h) (format_from format) id unused) ≡ done_of h said
+    pub new_claims : k ≡ 0 → done_of h (claims (reader_from h) format id unused) ≡ done_of h said
     new_claims z =
         ap (λ (f : ChunkHeaderFormat). done_of h (claims (reader_from h) f id unused)) same_format
         ∙ ap (λ (s : Stepped). done_of h s) (named_claims (setting_in h) rows (reader_from h) (format_of first) id place unused k p u of_none z none)

@@ -3,86 +3,71 @@ ghost use Rattle.std.specs.Prelude.{◌≡◌, [], ◌∷◌, ◌≤◌, ◌<◌
 ghost use Rattle.byte_machine.specs.Look.{look};
 ghost use Rattle.byte_machine.specs.Reader.{at, go};
 ghost use Rattle.chunk_header.specs.Basic.{csid};
-ghost use Rattle.chunk_header.specs.Table.{format_of, type_of};
+ghost use Rattle.chunk_header.specs.Table.{format_of};
 ghost use Rattle.byte_machine.specs.Step.{claims as Machine·claims, known as Machine·known, named as Machine·named};
 ghost use Rattle.held.specs.Done.{done_of};
 ghost use Rattle.header_in_place.specs.Byte.{bytes_of, kept_of, step_in};
-ghost use Rattle.held.specs.Numbers.{format_from, meant, reader_from, row_from, setting_in, stage_in};
+ghost use Rattle.held.specs.Numbers.{meant, reader_from, row_from, setting_in, stage_in};
 
+use chunk_header::ChunkHeaderFormat;
 use held::{Done, Held, HeldRow, ROWS, TABLE_LENGTH, find, first_free, goes, refused, row_in};
 use settling::{basic_refusal, timestamp_next};
 
-// The type that a first byte says.
-fn type_in(first: u32) -> u32
-    ensures { result ≡ type_of (format_of first) }
+// The format that a first byte says.
+#[tactic(auto, unfolding(chunk_header::specs::Table::format_of))]
+fn format_in(first: u32) -> ChunkHeaderFormat
+    ensures { result ≡ format_of first }
 {
-    if first < 64 {
-        return 0;
+    match first / 64 {
+        0 => ChunkHeaderFormat::Full,
+        1 => ChunkHeaderFormat::TimeDeltaWithoutMessageStreamId,
+        2 => ChunkHeaderFormat::TimeDeltaOnly,
+        _ => ChunkHeaderFormat::Empty,
     }
-    if first < 128 {
-        return 1;
-    }
-    if first < 192 {
-        return 2;
-    }
-    3
 }
 
 // A chunk of a stream that has a row.
-fn known(h: Held, format: u32, row: HeldRow, place: u32) -> Done
-    requires { format ≤ 3 }
-    ensures { result ≡ done_of h (Machine·known (setting_in h) (reader_from h) (format_from format) (row_from row) place) }
+fn known(h: Held, format: ChunkHeaderFormat, row: HeldRow, place: u32) -> Done
+    ensures { result ≡ done_of h (Machine·known (setting_in h) (reader_from h) format (row_from row) place) }
 {
     timestamp_next(Held {
-        room: h.room,
-        size: h.size,
-        closed: h.closed,
-        stage: h.stage,
-        number: h.number,
-        lacks: h.lacks,
-        format: format,
-        place: place,
+        format,
+        place,
         left: 0,
-        id: h.id,
-        got: h.got,
         before: row,
         header: row,
+        ..h
     })
 }
 
 // A chunk of a stream that claims a free row.
-fn claims(h: Held, format: u32, id: u32, place: u32) -> Done
-    requires { format ≤ 3 }
-    ensures { result ≡ done_of h (Machine·claims (reader_from h) (format_from format) id place) }
+fn claims(h: Held, format: ChunkHeaderFormat, id: u32, place: u32) -> Done
+    ensures { result ≡ done_of h (Machine·claims (reader_from h) format id place) }
 {
     let row = HeldRow {
-        id: id,
+        id,
         time: 0,
         field: 0,
         length: 0,
         kind: 0,
         stream: 0,
     };
-    let next = Held {
-        room: h.room,
-        size: h.size,
-        closed: h.closed,
+    let held = Held {
         stage: 3,
         number: 0,
         lacks: 3,
-        format: format,
-        place: place,
+        format,
+        place,
         left: 0,
-        id: h.id,
-        got: h.got,
         before: row,
         header: row,
+        ..h
     };
     Done {
-        held: next,
+        held,
         event: 0,
         number: 0,
-        place: place,
+        place,
     }
 }
 
@@ -90,7 +75,7 @@ fn claims(h: Held, format: u32, id: u32, place: u32) -> Done
 fn named(h: Held, rows: &[u32; TABLE_LENGTH], first: u32, id: u32) -> Done
     ensures { result ≡ done_of h (Machine·named (setting_in h) (look rows.now id) (reader_from h) (format_of first) id) }
 {
-    let format = type_in(first);
+    let format = format_in(first);
     let place = find(rows, id);
     if place < ROWS {
         let k = basic_refusal(format, true, true, h.id != 0, h.id == id);
@@ -109,6 +94,7 @@ fn named(h: Held, rows: &[u32; TABLE_LENGTH], first: u32, id: u32) -> Done
 }
 
 // A basic header of one byte, of two and of three: an id, or more of it has to come.
+#[tactic(auto, unfolding(chunk_header::specs::Basic::csid))]
 fn one(a: u32) -> Option<u32>
     ensures { result ≡ csid (a ∷ []) }
 {
@@ -119,6 +105,7 @@ fn one(a: u32) -> Option<u32>
     Some(n)
 }
 
+#[tactic(auto, unfolding(chunk_header::specs::Basic::csid))]
 fn two(a: u32, b: u32) -> Option<u32>
     requires { b ≤ 255 }
     ensures { result ≡ csid (a ∷ b ∷ []) }
@@ -134,6 +121,7 @@ fn two(a: u32, b: u32) -> Option<u32>
     Some(n)
 }
 
+#[tactic(auto, unfolding(chunk_header::specs::Basic::csid))]
 fn three(a: u32, b: u32, c: u32) -> Option<u32>
     requires { (b ≤ 255) × (c ≤ 255) }
     ensures { result ≡ csid (a ∷ b ∷ c ∷ []) }
@@ -179,7 +167,7 @@ fn first_of(h: Held, byte: u8) -> u32
 
 // Kept, until more of it has come.
 fn keeps(h: Held, byte: u8) -> Done
-    requires { (h.format ≤ 3) × (h.stage < 3) }
+    requires { h.stage < 3 }
     ensures { result ≡ done_of h (go (at (reader_from h) (kept_of (stage_in h) byte))) }
 {
     let last = byte as u32;
@@ -195,7 +183,7 @@ fn keeps(h: Held, byte: u8) -> Done
 
 // A byte of a basic header: it says an id, or is kept.
 pub fn basic_byte(h: Held, rows: &[u32; TABLE_LENGTH], byte: u8) -> Done
-    requires { (h.format ≤ 3) × (h.stage < 3) }
+    requires { h.stage < 3 }
     ensures { result ≡ done_of h (step_in (meant h rows.now) byte) }
 {
     let read = get_csid(h, byte);

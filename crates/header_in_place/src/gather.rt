@@ -1,5 +1,5 @@
 // A byte of a field.
-ghost use Rattle.std.specs.Prelude.{◌≡◌, ◌≤◌};
+ghost use Rattle.std.specs.Prelude.{◌≡◌};
 ghost use Rattle.byte_machine.specs.Step.{extended_field_step, gathered as Machine·gathered, length_field_step, stream_field_step, timestamp_field_step, type_field_step};
 ghost use Rattle.held.specs.Done.{done_of};
 ghost use Rattle.held.specs.Numbers.{reader_from, setting_in};
@@ -15,8 +15,8 @@ fn gathered(before: u32, byte: u8) -> u32
     before % 16777216 * 256 + byte as u32
 }
 
+#[tactic(auto, unfolding(byte_machine::specs::Step::timestamp_field_step))]
 pub fn timestamp_byte(h: Held, byte: u8) -> Done
-    requires { h.format ≤ 3 }
     ensures { result ≡ done_of h (timestamp_field_step (setting_in h) (reader_from h) h.number h.lacks byte) }
 {
     let number = gathered(h.number, byte);
@@ -28,8 +28,8 @@ pub fn timestamp_byte(h: Held, byte: u8) -> Done
     goes(h, 3, number, h.lacks - 1)
 }
 
+#[tactic(auto, unfolding(byte_machine::specs::Step::length_field_step))]
 pub fn length_byte(h: Held, byte: u8) -> Done
-    requires { h.format ≤ 3 }
     ensures { result ≡ done_of h (length_field_step (setting_in h) (reader_from h) h.number h.lacks byte) }
 {
     let number = gathered(h.number, byte);
@@ -41,8 +41,8 @@ pub fn length_byte(h: Held, byte: u8) -> Done
     goes(h, 4, number, h.lacks - 1)
 }
 
+#[tactic(auto, unfolding(byte_machine::specs::Step::type_field_step))]
 pub fn type_byte(h: Held, byte: u8) -> Done
-    requires { h.format ≤ 3 }
     ensures { result ≡ done_of h (type_field_step (setting_in h) (reader_from h) byte) }
 {
     let kind = byte as u32;
@@ -51,8 +51,8 @@ pub fn type_byte(h: Held, byte: u8) -> Done
     stream_next(next)
 }
 
+#[tactic(auto, unfolding(byte_machine::specs::Step::stream_field_step))]
 pub fn stream_byte(h: Held, byte: u8) -> Done
-    requires { h.format ≤ 3 }
     ensures { result ≡ done_of h (stream_field_step (setting_in h) (reader_from h) h.number h.lacks byte) }
 {
     let number = gathered(h.number, byte);
@@ -65,8 +65,8 @@ pub fn stream_byte(h: Held, byte: u8) -> Done
     goes(h, 6, number, h.lacks - 1)
 }
 
+#[tactic(auto, unfolding(byte_machine::specs::Step::extended_field_step))]
 pub fn extended_byte(h: Held, byte: u8) -> Done
-    requires { h.format ≤ 3 }
     ensures { result ≡ done_of h (extended_field_step (setting_in h) (reader_from h) h.number h.lacks byte) }
 {
     let number = gathered(h.number, byte);

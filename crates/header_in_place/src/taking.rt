@@ -1,5 +1,5 @@
 // A byte of a header.
-ghost use Rattle.std.specs.Prelude.{◌≡◌, ◌≤◌};
+ghost use Rattle.std.specs.Prelude.{◌≡◌};
 ghost use Rattle.held.specs.Done.{done_of};
 ghost use Rattle.header_in_place.specs.Byte.{Left, step_in};
 ghost use Rattle.held.specs.Numbers.{decode, meant};
@@ -10,7 +10,6 @@ use held::{Done, Held, TABLE_LENGTH, held_in, numbers_of, put_at, refused, shut}
 
 // By the stage. A byte of a payload never comes here.
 fn step(h: Held, rows: &[u32; TABLE_LENGTH], byte: u8) -> Done
-    requires { h.format ≤ 3 }
     ensures { result ≡ done_of h (step_in (meant h rows.now) byte) }
 {
     if h.stage < 3 {

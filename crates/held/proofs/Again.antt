@@ -36,7 +36,7 @@ stage_again (ExtendedTimestamp n lacks) h = refl
 stage_again MessagePayload h = refl
 
 pub decode_encode : (d : Decoder) → third d.reader.stage < 256 → decode (encode d) d.rows ≡ d
-decode_encode d h = rw (stage_again d.reader.stage h, from_again d.reader.chunk.format, from_again d.reader.chunk.format)
+decode_encode d h = rw (stage_again d.reader.stage h, from_again d.reader.chunk.format)
 
 -- what numbers mean is small, whatever they are
 pub from_small : (s n l : ℕ) → third (stage_from s n l) < 256

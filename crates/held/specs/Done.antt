@@ -1,5 +1,6 @@
 -- What a byte did, as numbers.
 use Rattle.std.specs.Prelude.{ℕ, cond}
+use Rattle.chunk_header.specs.declared.ChunkHeaderFormat.TheVariants.{Full}
 use Rattle.byte_machine.specs.Reader.{Event, Go, Chunk, Message, Refuse, Stepped, nowhere}
 use Rattle.decoding.specs.Call.{is_refusal}
 use Rattle.held.specs.declared.numbers.Held.{Held}
@@ -22,7 +23,7 @@ refusal_of (Refuse k) = k
 
 -- of a refusal only the number is kept
 abbrev pub nothing : Held
-nothing = record { room = 0; size = 0; closed = 0; stage = 0; number = 0; lacks = 0; format = 0; place = 0; left = 0; id = 0; got = 0; before = held_row 0 0 0 0 0 0; header = held_row 0 0 0 0 0 0 }
+nothing = record { room = 0; size = 0; closed = 0; stage = 0; number = 0; lacks = 0; format = Full; place = 0; left = 0; id = 0; got = 0; before = held_row 0 0 0 0 0 0; header = held_row 0 0 0 0 0 0 }
 
 -- a step as numbers, beside the room, the size and the closed number of a decoder
 abbrev pub done_of : Held → Stepped → Done

@@ -94,7 +94,7 @@ held_row_of r = held_row r.id r.timestamp.value r.timestamp_field r.message_leng
 abbrev pub reader_from : Held → Reader
 reader_from h =
     reader (stage_from h.stage h.number h.lacks)
-    (current (format_from h.format) h.place (row_from h.before) (row_from h.header) h.left)
+    (current h.format h.place (row_from h.before) (row_from h.header) h.left)
     (unfinished h.id h.got)
 
 abbrev pub setting_in : Held → Setting
@@ -108,7 +108,7 @@ held_of s closed r = record {
   stage = code_of r.stage;
   number = number_of r.stage;
   lacks = lacks_of r.stage;
-  format = type_of r.chunk.format;
+  format = r.chunk.format;
   place = r.chunk.place;
   left = r.chunk.left;
   id = r.message.id;
@@ -129,7 +129,7 @@ held_in l = record {
   stage = get_or l 3 0;
   number = get_or l 4 0;
   lacks = get_or l 5 0;
-  format = type_of (format_from (get_or l 6 0));
+  format = format_from (get_or l 6 0);
   place = get_or l 7 0;
   left = get_or l 8 0;
   id = get_or l 9 0;
@@ -140,7 +140,7 @@ held_in l = record {
 
 abbrev pub numbers_of : Held → List ℕ
 numbers_of h =
-    h.room ∷ h.size ∷ h.closed ∷ h.stage ∷ h.number ∷ h.lacks ∷ h.format ∷ h.place ∷ h.left ∷ h.id ∷ h.got
+    h.room ∷ h.size ∷ h.closed ∷ h.stage ∷ h.number ∷ h.lacks ∷ type_of h.format ∷ h.place ∷ h.left ∷ h.id ∷ h.got
     ∷ h.before.id ∷ h.before.time ∷ h.before.field ∷ h.before.length ∷ h.before.kind ∷ h.before.stream
     ∷ h.header.id ∷ h.header.time ∷ h.header.field ∷ h.header.length ∷ h.header.kind ∷ h.header.stream
     ∷ 0 ∷ []

@@ -1,11 +1,10 @@
 // A decoder as numbers, and what a byte does to them.
 ghost use Rattle.std.specs.Prelude.{◌≡◌, ◌+◌, ◌<◌};
 ghost use Rattle.byte_machine.specs.Reader.{refuse};
-ghost use Rattle.chunk_header.specs.Table.{type_of};
 ghost use Rattle.held.specs.Done.{done_of, goes_to, nothing as Byte·nothing};
 ghost use Rattle.held.specs.Numbers.{format_from, held_in, numbers_of, reader_from, held_row_at};
 
-use chunk_header::ChunkHeaderFormat;
+use chunk_header::{ChunkHeaderFormat, chunk_type};
 
 // A row of the table.
 #[derive(Clone, Copy)]
@@ -27,7 +26,7 @@ pub struct Held {
     pub stage: u32,
     pub number: u32,
     pub lacks: u32,
-    pub format: u32,
+    pub format: ChunkHeaderFormat,
     pub place: u32,
     pub left: u32,
     pub id: u32,
@@ -77,22 +76,12 @@ pub fn format_from(kind: u32) -> ChunkHeaderFormat
     ChunkHeaderFormat::Empty
 }
 
-fn type_from(n: u32) -> u32
-    ensures { result ≡ type_of (format_from n) }
-{
-    if n < 3 {
-        return n;
-    }
-    3
-}
-
 // The numbers that are lent, as a record ..
 pub fn held_in(held: &[u32; 24]) -> Held
     ensures { result ≡ held_in held.now }
 {
     let before = held_row(held, 11);
     let header = held_row(held, 17);
-    let format = type_from(held[6]);
     Held {
         room: held[0],
         size: held[1],
@@ -100,13 +89,13 @@ pub fn held_in(held: &[u32; 24]) -> Held
         stage: held[3],
         number: held[4],
         lacks: held[5],
-        format: format,
+        format: format_from(held[6]),
         place: held[7],
         left: held[8],
         id: held[9],
         got: held[10],
-        before: before,
-        header: header,
+        before,
+        header,
     }
 }
 
@@ -116,8 +105,9 @@ pub fn numbers_of(h: Held) -> [u32; 24]
 {
     let b = h.before;
     let k = h.header;
+    let format = chunk_type(h.format) as u32;
     [
-        h.room, h.size, h.closed, h.stage, h.number, h.lacks, h.format, h.place, h.left, h.id,
+        h.room, h.size, h.closed, h.stage, h.number, h.lacks, format, h.place, h.left, h.id,
         h.got, b.id, b.time, b.field, b.length, b.kind, b.stream, k.id, k.time, k.field, k.length,
         k.kind, k.stream, 0,
     ]
@@ -142,7 +132,7 @@ fn nothing() -> Held
         stage: 0,
         number: 0,
         lacks: 0,
-        format: 0,
+        format: ChunkHeaderFormat::Full,
         place: 0,
         left: 0,
         id: 0,

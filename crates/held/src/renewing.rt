@@ -1,5 +1,5 @@
 // The numbers that stand for what numbers mean.
-ghost use Rattle.std.specs.Prelude.{◌≡◌, ◌≤◌};
+ghost use Rattle.std.specs.Prelude.{◌≡◌};
 ghost use Rattle.held.specs.Numbers.{again, code_of, held_of, lacks_of, number_of, reader_from, setting_in, stage_from};
 
 use crate::numbers::{Held, held_in, numbers_of};
@@ -49,7 +49,6 @@ fn stage_lacks(stage: u32, number: u32, lacks: u32) -> u32
 
 // A decoder that is closed with a number.
 pub fn shut(h: Held, closed: u32) -> Held
-    requires { h.format ≤ 3 }
     ensures { result ≡ held_of (setting_in h) closed (reader_from h) }
 {
     let stage = stage_code(h.stage, h.number, h.lacks);

@@ -1,5 +1,6 @@
 -- Further chunks of a message in one run, over numbers: when they may follow, and what a run of them ensures.
 use Rattle.std.specs.Prelude.{ℕ, ◌-◌, ◌≤◌, min, Bool, false, true, List, ◌≢◌, ◌≡◌, drop, get_or, length}
+use Rattle.chunk_header.specs.declared.ChunkHeaderFormat.TheVariants.{Empty}
 use Rattle.chunk_header.specs.Limits.{max_field}
 use Rattle.chunk_meaning.specs.Stored.{Row}
 use Rattle.byte_machine.specs.Rows.{is_own, put_row}
@@ -59,7 +60,7 @@ gone_to held place row got = record {
   stage = 0;
   number = 0;
   lacks = 0;
-  format = 3;
+  format = Empty;
   place = place;
   left = 0;
   id = get_or held 9 0;

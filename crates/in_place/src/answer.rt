@@ -8,23 +8,20 @@ ghost use Rattle.in_place.specs.Answer.{answer_of};
 use held::held_in;
 use time::RtmpTimestamp;
 
+// A message: its payload is the first `length` bytes of the payload buffer.
+#[derive(Clone, Copy)]
+pub struct Message {
+    pub type_id: u32,
+    pub stream_id: u32,
+    pub timestamp: RtmpTimestamp,
+    pub length: u32,
+}
+
 #[derive(Clone, Copy)]
 pub enum Answer {
-    // its payload is the first `length` bytes of the payload buffer
-    Message {
-        type_id: u32,
-        stream_id: u32,
-        timestamp: RtmpTimestamp,
-        length: u32,
-        used: usize,
-    },
-    More {
-        used: usize,
-    },
-    Refused {
-        number: u32,
-        used: usize,
-    },
+    Message { message: Message, used: usize },
+    More { used: usize },
+    Refused { number: u32, used: usize },
 }
 
 // The message that has been read.
@@ -32,20 +29,17 @@ pub fn handed(held: &[u32; 24], used: usize) -> Answer
     ensures { answer_of result ≡ read (reader_from (held_in held.now)) used }
 {
     let header = held_in(held).header;
-    Answer::Message {
+    let message = Message {
         type_id: header.kind,
         stream_id: header.stream,
         timestamp: RtmpTimestamp::new(header.time),
         length: header.length,
-        used: used,
-    }
+    };
+    Answer::Message { message, used }
 }
 
 pub fn refused(number: u32, used: usize) -> Answer
     ensures { answer_of result ≡ Answer·refused number used }
 {
-    Answer::Refused {
-        number: number,
-        used: used,
-    }
+    Answer::Refused { number, used }
 }

@@ -6,7 +6,7 @@ ghost use Rattle.decoding.specs.Further.{Stops};
 ghost use Rattle.held.specs.Numbers.{numbers_of};
 ghost use Rattle.in_place.specs.Follow.{Apart, Follows, Goes, Other, gone_to};
 
-use chunk_header::MAX_INITIAL_TIMESTAMP;
+use chunk_header::{ChunkHeaderFormat, MAX_INITIAL_TIMESTAMP};
 use fields::put_bytes;
 use held::{
     Held, HeldRow, ROWS, TABLE_LENGTH, find, is_own, lacking, least, numbers_of, row_or_empty, wide,
@@ -116,7 +116,7 @@ fn gone_to(held: &[u32; 24], place: u32, row: HeldRow, got: u32) -> [u32; 24]
         stage: 0,
         number: 0,
         lacks: 0,
-        format: 3,
+        format: ChunkHeaderFormat::Empty,
         place: place,
         left: 0,
         id: held[9],

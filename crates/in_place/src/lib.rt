@@ -6,10 +6,12 @@ mod answer;
 mod call;
 mod further;
 mod paying;
+mod refusal;
 mod size;
 mod turning;
 
-pub use crate::answer::Answer;
+pub use crate::answer::{Answer, Message};
 pub use crate::call::next_message;
-pub use crate::size::{Telling, get_max_chunk_size, make, set_max_chunk_size};
+pub use crate::refusal::Refusal;
+pub use crate::size::{get_max_chunk_size, make, set_max_chunk_size};
 pub use held::TABLE_LENGTH;

@@ -35,7 +35,7 @@ pub fn may_pay(held: &[u32; 24]) -> bool
 
 // After n bytes of payload.
 fn landed(h: Held, n: u32) -> Done
-    requires { (h.format ≤ 3) × ((8 ≤ h.stage) × ((n ≤ h.left) × (h.got + h.left ≤ 0xffff_ffff))) }
+    requires { (8 ≤ h.stage) × ((n ≤ h.left) × (h.got + h.left ≤ 0xffff_ffff)) }
     ensures { result ≡ done_of h (Payload·landed (reader_from h) n) }
 {
     let got = h.got + n;

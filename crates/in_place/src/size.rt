@@ -4,15 +4,9 @@ ghost use Rattle.decoding.specs.Told.{between as Told·between, fresh as Told·f
 ghost use Rattle.held.specs.Numbers.{again, decode, encode, held_in, reader_from};
 ghost use Rattle.in_place.specs.Answer.{LentSize, LentTold, Stands, size_of};
 
+use crate::refusal::Refusal;
 use chunk_header::{INITIAL_MAX_CHUNK_SIZE, LARGEST_CHUNK_SIZE, LARGEST_ROOM};
 use held::{TABLE_LENGTH, held_in, numbers_of, renew};
-
-// What making a decoder, or telling it a size, answers.
-#[derive(Clone, Copy)]
-pub enum Telling {
-    Taken,
-    Refused(u32),
-}
 
 // A decoder to which nothing has come.
 fn fresh(held: &mut [u32; 24], rows: &mut [u32; TABLE_LENGTH], room: u32, closed: u32)
@@ -50,19 +44,16 @@ fn fresh(held: &mut [u32; 24], rows: &mut [u32; TABLE_LENGTH], room: u32, closed
 }
 
 // A decoder for messages of at most `room` bytes, whatever was in the arrays.
-pub fn make(held: &mut [u32; 24], rows: &mut [u32; TABLE_LENGTH], room: u32) -> Telling
+#[tactic(auto, unfolding(decoding::specs::Told::made))]
+pub fn make(held: &mut [u32; 24], rows: &mut [u32; TABLE_LENGTH], room: u32) -> Result<(), Refusal>
     ensures { LentSize (size_of result) held.new rows.new (made room) }
 {
-    if room == 0 {
+    if room == 0 || LARGEST_ROOM < room {
         fresh(held, rows, room, 6);
-        return Telling::Refused(6);
-    }
-    if LARGEST_ROOM < room {
-        fresh(held, rows, room, 6);
-        return Telling::Refused(6);
+        return Err(Refusal { number: 6 });
     }
     fresh(held, rows, room, 0);
-    Telling::Taken
+    Ok(())
 }
 
 // No byte of a message has come that has not ended.
@@ -86,15 +77,15 @@ fn resize(held: &mut [u32; 24], size: u32)
     *held = numbers;
 }
 
-fn refused(held: &mut [u32; 24], number: u32) -> Telling
+fn refused(held: &mut [u32; 24], number: u32) -> Result<(), Refusal>
     ensures { (size_of result ≡ Told·refused number) × (held.new ≡ again held.old) }
 {
     renew(held);
-    Telling::Refused(number)
+    Err(Refusal { number })
 }
 
 // The chunk size of the peer, told between messages. No row counts, and none is touched.
-pub fn set_max_chunk_size(held: &mut [u32; 24], new_size: u32) -> Telling
+pub fn set_max_chunk_size(held: &mut [u32; 24], new_size: u32) -> Result<(), Refusal>
     ensures { LentTold (size_of result) held.old new_size held.new }
 {
     let closed = held[2];
@@ -109,7 +100,7 @@ pub fn set_max_chunk_size(held: &mut [u32; 24], new_size: u32) -> Telling
     }
     if between(held) {
         resize(held, new_size);
-        return Telling::Taken;
+        return Ok(());
     }
     refused(held, 8)
 }

@@ -1,5 +1,5 @@
 // One message by a decoder, its bytes in pieces.
-use in_place::{Answer, TABLE_LENGTH};
+use in_place::{Answer, Message, TABLE_LENGTH};
 use test_calls::{Cut, Walk, Walked, make_sized, next_answer};
 
 fn wide(number: u32) -> u64 {
@@ -17,12 +17,12 @@ fn clear(report: &mut [u64; 8]) {
 }
 
 // Tells a message.
-fn tell_message(type_id: u32, stream_id: u32, time: u32, length: u32, report: &mut [u64; 8]) {
+fn tell_message(message: Message, report: &mut [u64; 8]) {
     report[0] = 1;
-    report[2] = wide(type_id);
-    report[3] = wide(stream_id);
-    report[4] = wide(time);
-    report[5] = wide(length);
+    report[2] = wide(message.type_id);
+    report[3] = wide(message.stream_id);
+    report[4] = wide(message.timestamp.value);
+    report[5] = wide(message.length);
 }
 
 // Tells kind (0 for more wanted, 1 for a message, 2 for a refusal), refusal, type, stream, time, length, bytes used and calls.
@@ -33,13 +33,7 @@ fn tell(walked: Walked, report: &mut [u64; 8]) {
     report[6] = walk.used as u64;
     report[7] = walk.calls;
     match answer {
-        Answer::Message {
-            type_id,
-            stream_id,
-            timestamp,
-            length,
-            used: _,
-        } => tell_message(type_id, stream_id, timestamp.value, length, report),
+        Answer::Message { message, used: _ } => tell_message(message, report),
         Answer::More { used: _ } => {}
         Answer::Refused { number, used: _ } => {
             report[0] = 2;

@@ -29,8 +29,7 @@ use Rattle.decoding.specs.Decoder.{Decoder}
 use Rattle.decoding.proofs.Heading.{known_runs}
 use Rattle.decoding.proofs.Runs.{bulk, holding, next_runs, then}
 use Rattle.held.specs.declared.numbers.HeldRow.{HeldRow}
-use Rattle.held.specs.Numbers.{decode, encode, format_from, held_in, held_row, held_row_of, numbers_of, reader_from, row_from}
-use Rattle.held.proofs.Formats.{from_again}
+use Rattle.held.specs.Numbers.{decode, encode, held_in, held_row, held_row_of, numbers_of, reader_from, row_from}
 use Rattle.held.proofs.Stages.{is_csid}
 use Rattle.one_stroke.specs.declared.message.Seen.{Seen}
 use Rattle.one_stroke.specs.Lent.{Lent}
@@ -41,24 +40,23 @@ abbrev with_time : HeldRow → ℕ → HeldRow
 with_time h time = held_row h.id time h.field h.length h.kind h.stream
 
 -- what the tests saw is the chunk that the input begins with
-pub sees : (held rows input : List ℕ) (f : ChunkHeaderFormat) (kind start place time : ℕ) (row header : HeldRow)
-    → f ≡ format_at input → kind ≡ type_of f → start ≡ 1 + header_length (type_of f) → 2 ≤ get_or input 0 0 % 64 → start ≤ length input
+pub sees : (held rows input : List ℕ) (f : ChunkHeaderFormat) (start place time : ℕ) (row header : HeldRow)
+    → f ≡ format_at input → start ≡ 1 + header_length (type_of f) → 2 ≤ get_or input 0 0 % 64 → start ≤ length input
     → place ≡ place_at rows input → place < row_count → row ≡ held_row_of (row_or_empty rows place)
     → header ≡ held_row_of (carried (header_in f input) (row_from row))
     → Fits header.field header.length (get_or held 0 0) (get_or held 1 0) (length input - start)
-    → time ≡ first_time (format_from kind) row.time header.field
-    → Whole (record { start = start; format = kind; place = place; before = row; header = with_time header time }) held rows input
-sees held rows input f kind start place time row header f-is kind_is start_is id long place_is found row_is header_is fits time_is =
+    → time ≡ first_time f row.time header.field
+    → Whole (record { start = start; format = f; place = place; before = row; header = with_time header time }) held rows input
+sees held rows input f start place time row header f-is start_is id long place_is found row_is header_is fits time_is =
     let r : row ≡ held_row_of (row_on rows input) = row_is ∙ ap (λ (x : Row). held_row_of x) (in_table rows place found ∙ ap (λ (p : ℕ). row_at rows p) place_is) in
     let h : header ≡ held_row_of (header_at rows input) =
     header_is
     ∙ ap (λ (x : HeldRow). held_row_of (carried (header_in f input) (row_from x))) r
     ∙ ap (λ (g : ChunkHeaderFormat). held_row_of (carried (header_in g input) (row_on rows input))) f-is
     in
-    let g : format_from kind ≡ format_at input = ap (λ (n : ℕ). format_from n) kind_is ∙ from_again f ∙ f-is in
     let t : time ≡ first_time (format_at input) (row_on rows input).timestamp.value (header_at rows input).timestamp_field =
     time_is
-    ∙ ap (λ (x : ChunkHeaderFormat). first_time x row.time header.field) g
+    ∙ ap (λ (x : ChunkHeaderFormat). first_time x row.time header.field) f-is
     ∙ ap (λ (x : HeldRow). first_time (format_at input) x.time header.field) r
     ∙ ap (λ (x : HeldRow). first_time (format_at input) (row_on rows input).timestamp.value x.field) h
     in
@@ -66,7 +64,7 @@ sees held rows input f kind start place time row header f-is kind_is start_is id
       id = id;
       start_is = start_is ∙ ap (λ (x : ChunkHeaderFormat). 1 + header_length (type_of x)) f-is;
       long = long;
-      format_is = kind_is ∙ ap (λ (x : ChunkHeaderFormat). type_of x) f-is;
+      format_is = f-is;
       place_is = place_is;
       found = rw place_is at found;
       before_is = r;

@@ -1,6 +1,7 @@
 -- What the paths in front of the loop ensure: the call's own answer in one stroke, or nothing changed.
 use Rattle.std.specs.Prelude.{ℕ, ◌+◌, ◌-◌, ◌%◌, ◌≤◌, ◌<◌, Bool, true, false, List, ◌≢◌, ◌≡◌, get_or, length}
 use Rattle.chunk_header.specs.declared.ChunkHeaderFormat.{ChunkHeaderFormat}
+use Rattle.chunk_header.specs.declared.ChunkHeaderFormat.TheVariants.{Full}
 use Rattle.chunk_header.specs.Limits.{max_field}
 use Rattle.chunk_header.specs.Table.{format_of, header_length, type_of}
 use Rattle.chunk_meaning.specs.Stored.{Row, timed}
@@ -80,7 +81,7 @@ pub record Whole (s : Seen) (held rows input : List ℕ) : Type 0 where
   pub id : 2 ≤ get_or input 0 0 % 64
   pub start_is : s.start ≡ 1 + header_length (type_of (format_at input))
   pub long : s.start ≤ length input
-  pub format_is : s.format ≡ type_of (format_at input)
+  pub format_is : s.format ≡ format_at input
   pub place_is : s.place ≡ place_at rows input
   pub found : place_at rows input < row_count
   pub before_is : s.before ≡ held_row_of (row_on rows input)
@@ -91,4 +92,4 @@ abbrev pub Sees : Seen → (held rows input : List ℕ) → Type 0
 Sees s held rows input = s.start ≢ 0 → Whole s held rows input
 
 abbrev pub unseen : Seen
-unseen = record { start = 0; format = 0; place = 0; before = held_row 0 0 0 0 0 0; header = held_row 0 0 0 0 0 0 }
+unseen = record { start = 0; format = Full; place = 0; before = held_row 0 0 0 0 0 0; header = held_row 0 0 0 0 0 0 }

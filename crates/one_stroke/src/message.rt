@@ -10,7 +10,7 @@ ghost use Rattle.held.specs.Numbers.{held_row_of, row_from};
 ghost use Rattle.one_stroke.specs.Quick.{Midway, Once, Sees, Unfit, unseen as Quick·unseen};
 
 use chunk_header::{
-    ChunkHeaderFormat, MAX_INITIAL_TIMESTAMP, chunk_type, get_format, header_length,
+    ChunkHeaderFormat, MAX_INITIAL_TIMESTAMP, get_format, header_length,
 };
 use fields::{number_at, put_bytes, swap_bytes};
 use held::{Held, HeldRow, ROWS, TABLE_LENGTH, find, numbers_of, put_at, row_or_empty, wide};
@@ -123,7 +123,7 @@ fn is_unfit(header: HeldRow, room: u32, size: u32, rest: usize) -> bool
 #[derive(Clone, Copy)]
 pub struct Seen {
     pub start: usize,
-    pub format: u32,
+    pub format: ChunkHeaderFormat,
     pub place: u32,
     pub before: HeldRow,
     pub header: HeldRow,
@@ -142,7 +142,7 @@ fn unseen() -> Seen
     };
     Seen {
         start: 0,
-        format: 0,
+        format: ChunkHeaderFormat::Full,
         place: 0,
         before: row,
         header: row,
@@ -155,7 +155,6 @@ fn see(held: &[u32; 24], rows: &[u32; TABLE_LENGTH], input: &[u8]) -> Seen
 {
     let byte = input[0];
     let format = get_format(byte);
-    let kind = chunk_type(format);
     let start = 1 + header_length(format);
     if byte % 64 < 2 {
         return unseen();
@@ -172,12 +171,12 @@ fn see(held: &[u32; 24], rows: &[u32; TABLE_LENGTH], input: &[u8]) -> Seen
     if is_unfit(header, held[0], held[1], input.len() - start) {
         return unseen();
     }
-    let time = first_time(kind as u32, row.time, header.field);
+    let time = first_time(format, row.time, header.field);
     let mut named = header;
     named.time = time;
     Seen {
-        start: start,
-        format: kind as u32,
+        start,
+        format,
         place: place as u32,
         before: row,
         header: named,

@@ -37,7 +37,7 @@ fn lies_outside(held: &[u32; 24], length: usize, lent: usize) -> bool
 
 // After n bytes of payload that do not end their chunk.
 fn nearer(h: Held, n: u32) -> Held
-    requires { (h.format ≤ 3) × ((8 ≤ h.stage) × ((n ≤ h.left) × (h.got + h.left ≤ 0xffff_ffff))) }
+    requires { (8 ≤ h.stage) × ((n ≤ h.left) × (h.got + h.left ≤ 0xffff_ffff)) }
     ensures { result ≡ held_of (setting_in h) h.closed (paid (reader_from h) (h.got + n) (h.left - n)) }
 {
     let got = h.got + n;

@@ -1,11 +1,13 @@
-// What lines answer: a word, numbers and bytes, and the text of that. It knows no codec. A test tool: it is proved safe and
-// ending, and promises nothing further.
+// What lines answer: the text that waits to be written, and how bytes, bytes that were written and refusals stand in it. It knows no
+// codec. A test tool: it is proved safe and ending, and promises of a text what is put into it.
 #![tactic(auto)]
 
 mod hex;
-mod said;
-mod signed;
+mod refused;
 mod text;
+mod written;
 
-pub use crate::said::{Said, put_said};
-pub use crate::text::{put, put_numbered};
+pub use crate::hex::Hex;
+pub use crate::refused::Refused;
+pub use crate::text::Text;
+pub use crate::written::Written;

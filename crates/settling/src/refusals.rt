@@ -1,74 +1,55 @@
-// What is refused at the last byte of a basic header, by the number of its type.
+// What is refused at the last byte of a basic header, by its format.
 ghost use Rattle.std.specs.Prelude.{◌≡◌, not, ◌&&◌};
 ghost use Rattle.chunk_meaning.specs.Meaning.{basic_refusal};
 ghost use Rattle.chunk_header.specs.Table.{is_empty, is_full};
-ghost use Rattle.held.specs.Numbers.{format_from};
 
-fn is_full(format: u32) -> bool
-    ensures { result ≡ is_full (format_from format) }
+use chunk_header::ChunkHeaderFormat;
+
+pub fn is_full(format: ChunkHeaderFormat) -> bool
+    ensures { result ≡ is_full format }
 {
-    if format == 0 {
-        return true;
-    }
-    false
+    matches!(format, ChunkHeaderFormat::Full)
 }
 
-fn is_empty(format: u32) -> bool
-    ensures { result ≡ is_empty (format_from format) }
+fn is_empty(format: ChunkHeaderFormat) -> bool
+    ensures { result ≡ is_empty format }
 {
-    if format < 3 {
-        return false;
-    }
-    true
+    matches!(format, ChunkHeaderFormat::Empty)
 }
 
-fn refuses_9(format: u32, has_row: bool, inside: bool) -> bool
-    ensures { result ≡ (not inside && (not (is_full (format_from format)) && not has_row)) }
+fn refuses_9(format: ChunkHeaderFormat, has_row: bool, inside: bool) -> bool
+    ensures { result ≡ (not inside && (not (is_full format) && not has_row)) }
 {
-    if inside {
-        return false;
-    }
-    if is_full(format) {
-        return false;
-    }
-    !has_row
+    !inside && !is_full(format) && !has_row
 }
 
-fn refuses_10(format: u32, has_row: bool, has_free: bool) -> bool
-    ensures { result ≡ (is_full (format_from format) && (not has_row && not has_free)) }
+fn refuses_10(format: ChunkHeaderFormat, has_row: bool, has_free: bool) -> bool
+    ensures { result ≡ (is_full format && (not has_row && not has_free)) }
 {
-    if is_full(format) {
-        if has_row {
-            return false;
-        }
-        return !has_free;
-    }
-    false
+    is_full(format) && !has_row && !has_free
 }
 
 fn refuses_11(inside: bool, own: bool) -> bool
     ensures { result ≡ (inside && not own) }
 {
-    if inside {
-        return !own;
-    }
-    false
+    inside && !own
 }
 
-fn refuses_12(format: u32, inside: bool) -> bool
-    ensures { result ≡ (inside && (not (is_full (format_from format)) && not (is_empty (format_from format)))) }
+fn refuses_12(format: ChunkHeaderFormat, inside: bool) -> bool
+    ensures { result ≡ (inside && (not (is_full format) && not (is_empty format))) }
 {
-    if inside {
-        if is_full(format) {
-            return false;
-        }
-        return !is_empty(format);
-    }
-    false
+    inside && !is_full(format) && !is_empty(format)
 }
 
-pub fn basic_refusal(format: u32, has_row: bool, has_free: bool, inside: bool, own: bool) -> u32
-    ensures { result ≡ basic_refusal (format_from format) has_row has_free inside own }
+#[tactic(auto, unfolding(chunk_meaning::specs::Meaning::basic_refusal))]
+pub fn basic_refusal(
+    format: ChunkHeaderFormat,
+    has_row: bool,
+    has_free: bool,
+    inside: bool,
+    own: bool,
+) -> u32
+    ensures { result ≡ basic_refusal format has_row has_free inside own }
 {
     if refuses_9(format, has_row, inside) {
         return 9;

@@ -1,5 +1,5 @@
 // A header that is whole, and the fields that may come before it is.
-ghost use Rattle.std.specs.Prelude.{◌≡◌, ◌≤◌, not, ◌&&◌, ◌==◌, nat_lt};
+ghost use Rattle.std.specs.Prelude.{◌≡◌, not, ◌&&◌, ◌==◌, nat_lt};
 ghost use Rattle.chunk_header.specs.Limits.{max_field};
 ghost use Rattle.time.specs.Clock.{sum as Clock·sum};
 ghost use Rattle.chunk_header.specs.Table.{is_full};
@@ -8,14 +8,15 @@ ghost use Rattle.byte_machine.specs.Header.{extended_next, length_next, stream_n
 ghost use Rattle.byte_machine.specs.Header.{lacks as Header·lacks};
 ghost use Rattle.held.specs.Done.{done_of};
 ghost use Rattle.settling.specs.Opened.{opened_to};
-ghost use Rattle.held.specs.Numbers.{format_from, reader_from, row_from, setting_in};
+ghost use Rattle.held.specs.Numbers.{reader_from, row_from, setting_in};
 
-use chunk_header::{HeaderField, MAX_INITIAL_TIMESTAMP, field_length};
-use held::{Done, Held, HeldRow, format_from, goes, lacking, least, refused};
+use crate::refusals::is_full;
+use chunk_header::{ChunkHeaderFormat, HeaderField, MAX_INITIAL_TIMESTAMP, field_length};
+use held::{Done, Held, HeldRow, goes, lacking, least, refused};
 
 // The payload of a chunk. A message of no bytes ends here.
+#[tactic(auto, unfolding(byte_machine::specs::Header::opens))]
 fn opened(h: Held, time: u32, got: u32) -> Done
-    requires { h.format ≤ 3 }
     ensures { result ≡ done_of h (opened_to h time got) }
 {
     let mut next = h;
@@ -48,23 +49,18 @@ fn opened(h: Held, time: u32, got: u32) -> Done
 fn repeats(message: HeldRow, header: HeldRow, time: u32) -> bool
     ensures { result ≡ Meaning·repeats (row_from message) (row_from header) time }
 {
-    if header.length != message.length {
-        return false;
-    }
-    if header.kind != message.kind {
-        return false;
-    }
-    if header.stream != message.stream {
-        return false;
-    }
-    time == message.time
+    header.length == message.length
+        && header.kind == message.kind
+        && header.stream == message.stream
+        && time == message.time
 }
 
 // What is refused of a later chunk, and of a first one; 0: nothing.
+#[tactic(auto, unfolding(chunk_meaning::specs::Meaning::later_refusal))]
 fn later_refusal(h: Held, time: u32) -> u32
-    ensures { result ≡ later_refusal (format_from h.format) (row_from h.before) (row_from h.header) time }
+    ensures { result ≡ later_refusal h.format (row_from h.before) (row_from h.header) time }
 {
-    if h.format == 0 {
+    if is_full(h.format) {
         if repeats(h.before, h.header, time) {
             return 0;
         }
@@ -73,8 +69,9 @@ fn later_refusal(h: Held, time: u32) -> u32
     0
 }
 
+#[tactic(auto, unfolding(chunk_meaning::specs::Meaning::first_refusal))]
 fn first_refusal(h: Held, time: u32) -> u32
-    ensures { result ≡ first_refusal (format_from h.format) (row_from h.header) time h.room }
+    ensures { result ≡ first_refusal h.format (row_from h.header) time h.room }
 {
     if refuses_13(h, time) {
         return 13;
@@ -86,22 +83,16 @@ fn first_refusal(h: Held, time: u32) -> u32
 }
 
 fn refuses_13(h: Held, time: u32) -> bool
-    ensures { result ≡ (not (is_full (format_from h.format)) && (h.header.field == max_field && nat_lt time max_field)) }
+    ensures { result ≡ (not (is_full h.format) && (h.header.field == max_field && nat_lt time max_field)) }
 {
-    if h.format == 0 {
-        return false;
-    }
-    if h.header.field != MAX_INITIAL_TIMESTAMP {
-        return false;
-    }
-    time < MAX_INITIAL_TIMESTAMP
+    !is_full(h.format) && h.header.field == MAX_INITIAL_TIMESTAMP && time < MAX_INITIAL_TIMESTAMP
 }
 
 // The time of a message, by what its first chunk says of it.
-pub fn first_time(format: u32, before: u32, time: u32) -> u32
-    ensures { result ≡ first_time (format_from format) before time }
+pub fn first_time(format: ChunkHeaderFormat, before: u32, time: u32) -> u32
+    ensures { result ≡ first_time format before time }
 {
-    if format == 0 {
+    if is_full(format) {
         return time;
     }
     sum(before, time)
@@ -114,8 +105,8 @@ fn sum(a: u32, b: u32) -> u32
 }
 
 // A header that is whole, with the number that it says of the time.
+#[tactic(auto, unfolding(byte_machine::specs::Header::whole))]
 pub fn settled(h: Held, time: u32) -> Done
-    requires { h.format ≤ 3 }
     ensures { result ≡ done_of h (whole (setting_in h) (reader_from h) time) }
 {
     if h.id == 0 {
@@ -132,8 +123,8 @@ pub fn settled(h: Held, time: u32) -> Done
     opened(h, h.before.time, h.got)
 }
 
+#[tactic(auto, unfolding(byte_machine::specs::Header::extended_next))]
 pub fn extended_next(h: Held) -> Done
-    requires { h.format ≤ 3 }
     ensures { result ≡ done_of h (extended_next (setting_in h) (reader_from h)) }
 {
     if h.header.field == MAX_INITIAL_TIMESTAMP {
@@ -146,12 +137,12 @@ pub fn extended_next(h: Held) -> Done
 fn lacks(h: Held, field: HeaderField) -> u32
     ensures { result ≡ Header·lacks (reader_from h) field }
 {
-    field_length(format_from(h.format), field)
+    field_length(h.format, field)
 }
 
 // Each field comes next, or is passed over where the format does not have it.
+#[tactic(auto, unfolding(byte_machine::specs::Header::stream_next))]
 pub fn stream_next(h: Held) -> Done
-    requires { h.format ≤ 3 }
     ensures { result ≡ done_of h (stream_next (setting_in h) (reader_from h)) }
 {
     let n = lacks(h, HeaderField::MessageStreamId);
@@ -161,8 +152,8 @@ pub fn stream_next(h: Held) -> Done
     goes(h, 6, 0, n)
 }
 
+#[tactic(auto, unfolding(byte_machine::specs::Header::type_next))]
 pub fn type_next(h: Held) -> Done
-    requires { h.format ≤ 3 }
     ensures { result ≡ done_of h (type_next (setting_in h) (reader_from h)) }
 {
     let n = lacks(h, HeaderField::MessageTypeId);
@@ -172,8 +163,8 @@ pub fn type_next(h: Held) -> Done
     goes(h, 5, 0, 0)
 }
 
+#[tactic(auto, unfolding(byte_machine::specs::Header::length_next))]
 pub fn length_next(h: Held) -> Done
-    requires { h.format ≤ 3 }
     ensures { result ≡ done_of h (length_next (setting_in h) (reader_from h)) }
 {
     let n = lacks(h, HeaderField::MessageLength);
@@ -183,8 +174,8 @@ pub fn length_next(h: Held) -> Done
     goes(h, 4, 0, n)
 }
 
+#[tactic(auto, unfolding(byte_machine::specs::Header::timestamp_next))]
 pub fn timestamp_next(h: Held) -> Done
-    requires { h.format ≤ 3 }
     ensures { result ≡ done_of h (timestamp_next (setting_in h) (reader_from h)) }
 {
     let n = lacks(h, HeaderField::Timestamp);

@@ -13,6 +13,6 @@ pub fn encoder(size: u32) -> ChunkSerializer {
 
 // Makes a decoder, in what is lent, for messages of at most `room` bytes in chunks of `size`.
 pub fn make_sized(held: &mut [u32; 24], rows: &mut [u32; TABLE_LENGTH], room: u32, size: u32) {
-    make(held, rows, room);
-    set_max_chunk_size(held, size);
+    let _ = make(held, rows, room);
+    let _ = set_max_chunk_size(held, size);
 }

@@ -4,14 +4,8 @@ use in_place::Answer;
 // How many bytes the call used.
 pub fn used_of(answer: Answer) -> usize {
     match answer {
-        Answer::Message {
-            type_id: _,
-            stream_id: _,
-            timestamp: _,
-            length: _,
-            used,
-        } => used,
+        Answer::Message { used, .. } => used,
         Answer::More { used } => used,
-        Answer::Refused { number: _, used } => used,
+        Answer::Refused { used, .. } => used,
     }
 }

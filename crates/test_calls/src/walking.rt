@@ -3,7 +3,7 @@
 use crate::pieces::Cut;
 use crate::used::used_of;
 use in_place::{
-    Answer, TABLE_LENGTH, Telling, get_max_chunk_size, next_message, set_max_chunk_size,
+    Answer, Refusal, TABLE_LENGTH, get_max_chunk_size, next_message, set_max_chunk_size,
 };
 use test_parts::part;
 
@@ -86,10 +86,10 @@ impl Walk {
     }
 
     // With a chunk size told; it is wrong if that was refused.
-    pub fn told(self, telling: Telling) -> Self {
+    pub fn told(self, telling: Result<(), Refusal>) -> Self {
         match telling {
-            Telling::Taken => self,
-            Telling::Refused(_) => self.bad(),
+            Ok(()) => self,
+            Err(_) => self.bad(),
         }
     }
 }
@@ -97,11 +97,7 @@ impl Walk {
 // Whether a size may be told: not inside a message. The size in force is told once more, which changes nothing.
 pub fn may_tell(held: &mut [u32; 24]) -> bool {
     let size = get_max_chunk_size(held);
-    let telling = set_max_chunk_size(held, size);
-    match telling {
-        Telling::Taken => true,
-        Telling::Refused(_) => false,
-    }
+    set_max_chunk_size(held, size).is_ok()
 }
 
 impl Walked {

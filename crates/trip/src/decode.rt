@@ -2,7 +2,7 @@
 use crate::first_bytes::print_first_bytes;
 use crate::kept::is_kept_one;
 use fields::number_at;
-use in_place::{Answer, TABLE_LENGTH, Telling, make, set_max_chunk_size};
+use in_place::{Answer, Message, Refusal, TABLE_LENGTH, make, set_max_chunk_size};
 use std::io;
 use test_calls::{Cut, Walk, may_tell, next_answer};
 use test_parts::{part, print, print_line, print_numbered};
@@ -67,7 +67,12 @@ impl Decoding {
     }
 
     // With a new chunk size told.
-    fn told(mut self, rt: &impl Print, size: u32, telling: Telling) -> io::Result<Self> {
+    fn told(
+        mut self,
+        rt: &impl Print,
+        size: u32,
+        telling: Result<(), Refusal>,
+    ) -> io::Result<Self> {
         let walk = self.walk;
         if self.is_told {
             print_telling(rt, size, telling)?;
@@ -78,31 +83,25 @@ impl Decoding {
 }
 
 // Writes what became of a new chunk size.
-fn print_telling(rt: &impl Print, size: u32, telling: Telling) -> io::Result<()> {
+fn print_telling(rt: &impl Print, size: u32, telling: Result<(), Refusal>) -> io::Result<()> {
     print_numbered(rt, b"told ", size as u64)?;
     match telling {
-        Telling::Taken => print(rt, b": taken")?,
-        Telling::Refused(number) => print_numbered(rt, b": refused ", number as u64)?,
+        Ok(()) => print(rt, b": taken")?,
+        Err(refusal) => print_numbered(rt, b": refused ", refusal.number as u64)?,
     }
     print(rt, b"\n")
 }
 
 // Writes a message's header.
-fn print_header(rt: &impl Print, type_id: u32, stream_id: u32, time: u32) -> io::Result<()> {
-    print_numbered(rt, b"message ", type_id as u64)?;
-    print_numbered(rt, b" on stream ", stream_id as u64)?;
-    print_numbered(rt, b" at ", time as u64)
+fn print_header(rt: &impl Print, message: Message) -> io::Result<()> {
+    print_numbered(rt, b"message ", message.type_id as u64)?;
+    print_numbered(rt, b" on stream ", message.stream_id as u64)?;
+    print_numbered(rt, b" at ", message.timestamp.value as u64)
 }
 
 // Writes a message.
-fn print_message(
-    rt: &impl Print,
-    type_id: u32,
-    stream_id: u32,
-    time: u32,
-    payload: &[u8],
-) -> io::Result<()> {
-    print_header(rt, type_id, stream_id, time)?;
+fn print_message(rt: &impl Print, message: Message, payload: &[u8]) -> io::Result<()> {
+    print_header(rt, message)?;
     print_numbered(rt, b", ", payload.len() as u64)?;
     print(rt, b" bytes: ")?;
     print_first_bytes(rt, payload)?;
@@ -114,31 +113,21 @@ fn take_message(
     rt: &impl Print,
     so_far: Decoding,
     held: &mut [u32; 24],
-    type_id: u32,
-    stream_id: u32,
-    time: u32,
+    message: Message,
     payload: &[u8],
     places: &[u8],
     sent: &mut [u8],
 ) -> io::Result<Decoding> {
     if so_far.is_told {
-        print_message(rt, type_id, stream_id, time, payload)?;
+        print_message(rt, message, payload)?;
     }
-    let is_kept = is_kept_one(
-        so_far.count,
-        type_id,
-        stream_id,
-        time,
-        payload,
-        places,
-        sent,
-    );
+    let is_kept = is_kept_one(so_far.count, message, payload, places, sent);
     if !is_kept {
         print(rt, b"not the message that was kept\n")?;
         return Ok(so_far.bad());
     }
     let next = so_far.with_message();
-    if type_id == 1 {
+    if message.type_id == 1 {
         let size = number_at(payload, 0, 4);
         return next.told(rt, size, set_max_chunk_size(held, size));
     }
@@ -156,25 +145,9 @@ fn take_answer(
     sent: &mut [u8],
 ) -> io::Result<Decoding> {
     match answer {
-        Answer::Message {
-            type_id,
-            stream_id,
-            timestamp,
-            length,
-            used: _,
-        } => {
-            let message = part(payload, 0, length as usize);
-            take_message(
-                rt,
-                so_far,
-                held,
-                type_id,
-                stream_id,
-                timestamp.value,
-                message,
-                places,
-                sent,
-            )
+        Answer::Message { message, used: _ } => {
+            let bytes = part(payload, 0, message.length as usize);
+            take_message(rt, so_far, held, message, bytes, places, sent)
         }
         Answer::More { used: _ } => Ok(so_far),
         Answer::Refused { number, used: _ } => {
@@ -240,7 +213,7 @@ pub fn decode_all(
 ) -> io::Result<End> {
     let mut held = [0u32; 24];
     let mut rows = [0u32; TABLE_LENGTH];
-    make(&mut held, &mut rows, ROOM);
+    let _ = make(&mut held, &mut rows, ROOM);
     let start = Decoding::new(piece, is_told);
     let end = offer_all(rt, start, &mut held, &mut rows, wire, places, payload, sent)?;
     let walk = end.walk;

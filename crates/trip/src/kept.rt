@@ -4,6 +4,7 @@ ghost use Rattle.std.specs.Prelude.{◌≡◌};
 use crate::plan::{Call, call_at, fill};
 use check::same;
 use fields::put_number;
+use in_place::Message;
 use test_parts::part;
 
 // The payload that the message of the call at `place` was sent with.
@@ -16,8 +17,10 @@ fn fill_sent(call: Call, place: usize, sent: &mut [u8]) {
 }
 
 // Whether a message's numbers are those of the call.
-fn is_header_of(call: Call, type_id: u32, stream_id: u32, time: u32) -> bool {
-    type_id == call.type_id as u32 && stream_id == call.stream_id && time == call.time
+fn is_header_of(call: Call, message: Message) -> bool {
+    message.type_id == call.type_id as u32
+        && message.stream_id == call.stream_id
+        && message.timestamp.value == call.time
 }
 
 fn wide(place: u8) -> usize
@@ -29,9 +32,7 @@ fn wide(place: u8) -> usize
 // Whether a message is the next one that was kept, its payload byte for byte; `sent` is for the payload that was sent.
 pub fn is_kept_one(
     count: usize,
-    type_id: u32,
-    stream_id: u32,
-    time: u32,
+    message: Message,
     payload: &[u8],
     places: &[u8],
     sent: &mut [u8],
@@ -42,5 +43,5 @@ pub fn is_kept_one(
     let place = wide(places[count]);
     let call = call_at(place);
     fill_sent(call, place, sent);
-    is_header_of(call, type_id, stream_id, time) && same(payload, part(sent, 0, call.length))
+    is_header_of(call, message) && same(payload, part(sent, 0, call.length))
 }

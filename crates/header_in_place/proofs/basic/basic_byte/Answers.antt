@@ -29,7 +29,7 @@ returns-in_default c =
     let read : csid (bytes_of (stage_in h) b) ≡ None = sym c.get_csid-read.ensures ∙ c.in_default.is in
     c.keeps.ensures
     ∙ ap (λ (x : Option ℕ). done_of h (basic_by x (setting_in h) (look rows) (reader_from h) (format_of (get_or (bytes_of (stage_in h) b) 0 0)) (kept_of (stage_in h) b))) (sym read)
-    ∙ ap (λ (x : Stepped). done_of h x) (basic_at (stage_in h) (setting_in h) (look rows) (reader_from h) b (low h c.requires.1))
+    ∙ ap (λ (x : Stepped). done_of h x) (basic_at (stage_in h) (setting_in h) (look rows) (reader_from h) b (low h c.requires))
 
 pub returns : goal.returns
 returns c =
@@ -41,4 +41,4 @@ returns c =
     c.named.ensures
     ∙ ap (λ (n : ℕ). done_of h (basic_by (Some id) (setting_in h) (look rows) (reader_from h) (format_of n) (kept_of (stage_in h) b))) c.first_of-first.ensures
     ∙ ap (λ (x : Option ℕ). done_of h (basic_by x (setting_in h) (look rows) (reader_from h) (format_of (get_or (bytes_of (stage_in h) b) 0 0)) (kept_of (stage_in h) b))) (sym read)
-    ∙ ap (λ (x : Stepped). done_of h x) (basic_at (stage_in h) (setting_in h) (look rows) (reader_from h) b (low h c.requires.1))
+    ∙ ap (λ (x : Stepped). done_of h x) (basic_at (stage_in h) (setting_in h) (look rows) (reader_from h) b (low h c.requires))

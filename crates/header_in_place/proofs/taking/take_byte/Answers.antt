@@ -3,7 +3,6 @@ use Prim.Native.Nat.{ℕ}
 use mathlib.Core.Logic.{◌≢◌}
 use mathlib.Core.List.{List}
 use mathlib.Core.Path.{sym, ap, subst, ◌∙◌}
-use lib.ListN.{get_or}
 use Rattle.byte_machine.specs.Rows.{put_at}
 use Rattle.held.specs.Numbers.{held_of, meant, numbers_of, reader_from, row_from, setting_in}
 use Rattle.held.specs.declared.numbers.Held.{Held}
@@ -11,14 +10,7 @@ use Rattle.held.specs.declared.numbers.Done.{Done}
 use Rattle.held.specs.Done.{done_of}
 use Rattle.header_in_place.specs.Byte.{step_in, Left}
 use Rattle.header_in_place.proofs.Keeping.{left_refused, left_kept}
-use Rattle.held.proofs.Formats.{type_small}
 use Rattle.header_in_place.proofs.taking.take_byte.Goals as goal
-
-pub step-done-requires : goal.step-done-requires
-step-done-requires c = rw c.held_in-h.ensures (type_small (get_or c.args.held.now 6 0))
-
-pub shut-requires : goal.shut-requires
-shut-requires c = rw c.held_in-h.ensures (type_small (get_or c.args.held.now 6 0))
 
 pub returns-then-done-eq3 : goal.returns-then-done-eq3
 returns-then-done-eq3 c =

@@ -1,13 +1,8 @@
 -- What the numbers mean, in the numbers that stand for it.
-use mathlib.Core.Path.{ap, ◌∙◌}
-use lib.ListN.{get_or}
+use Rattle.std.proofs.Common.{ap, ◌∙◌}
 use Rattle.held.specs.declared.numbers.Held.{Held}
 use Rattle.held.specs.Numbers.{held_of, numbers_of, reader_from, setting_in}
-use Rattle.held.proofs.Formats.{type_small}
 use Rattle.held.proofs.renewing.renew.Goals as goal
-
-pub shut-requires : goal.shut-requires
-shut-requires c = rw c.held_in-h.ensures (type_small (get_or c.args.held.now 6 0))
 
 pub returns : goal.returns
 returns c =

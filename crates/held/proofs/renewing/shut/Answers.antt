@@ -1,6 +1,5 @@
 -- The stage's three numbers are brought to those that stand for it; the others stay.
-use Rattle.held.proofs.Formats.{type_again}
 use Rattle.held.proofs.renewing.shut.Goals as goal
 
 pub returns : goal.returns
-returns c = rw (c.stage_lacks-lacks.ensures, c.stage_number-number.ensures, c.stage_code-stage.ensures, type_again c.args.h.format c.requires)
+returns c = rw (c.stage_lacks-lacks.ensures, c.stage_number-number.ensures, c.stage_code-stage.ensures)

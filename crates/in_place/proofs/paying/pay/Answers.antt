@@ -2,7 +2,7 @@
 use Prim.Native.Nat.{ℕ, ◌-◌, min}
 use mathlib.Core.Path.{◌≡◌, ap, ◌∙◌}
 use native.Mathlib.Omega.{arith}
-use lib.ListN.{get_or, length, take}
+use lib.ListN.{length, take}
 use Rattle.fields.specs.Output.{stored}
 use Rattle.byte_machine.specs.Payload.{landed}
 use Rattle.byte_machine.specs.Reader.{Stepped}
@@ -10,7 +10,6 @@ use Rattle.held.specs.declared.numbers.Held.{Held}
 use Rattle.held.specs.Done.{done_of}
 use Rattle.header_in_place.specs.Byte.{Left}
 use Rattle.held.specs.Numbers.{decode, held_in, reader_from}
-use Rattle.held.proofs.Formats.{type_small}
 use Rattle.in_place.proofs.Landing.{landed_kept, landed_means, stretched}
 use Rattle.in_place.proofs.Stepping.{kept, turned}
 use Rattle.in_place.proofs.paying.pay.Goals as goal
@@ -22,7 +21,7 @@ landed-done-requires c =
     let same = ap (λ (x : Held). x.left) i.ensures in
     let room = ap (λ (x : Held). x.room) i.ensures in
     rw i.ensures
-    (type_small (get_or held 6 0), (c.requires.stage, (omega (arith, c.least-n.ensures, c.wide.ensures, same), omega (arith, c.requires.ends, i.type_inv, room))))
+    (c.requires.stage, (omega (arith, c.least-n.ensures, c.wide.ensures, same), omega (arith, c.requires.ends, i.type_inv, room)))
 
 pub returns : goal.returns
 returns c =

@@ -3,7 +3,6 @@ use Prim.Native.Nat.{ℕ}
 use mathlib.Core.Path.{◌≡◌, ap, ◌∙◌}
 use mathlib.Core.List.{List, []}
 use lib.ListN.{get_or}
-use Rattle.chunk_header.specs.Table.{type_of}
 use Rattle.decoding.specs.Told.{sized}
 use Rattle.held.specs.Numbers.{again, decode, encode, format_from, held_in, numbers_of}
 use Rattle.held.specs.declared.numbers.Held.{Held}
@@ -28,7 +27,7 @@ resized h size = record {
 }
 
 resized-again : (held : List ℕ) (size : ℕ) → numbers_of (resized (held_in (again held)) size) ≡ encode (sized (decode held []) size)
-resized-again held size = rw (from_again (format_from (type_of (format_from (get_or held 6 0)))))
+resized-again held size = rw (from_again (format_from (get_or held 6 0)))
 
 pub returns : goal.returns
 returns c =

@@ -1,11 +1,8 @@
 -- Where every test is passed, what is seen is the chunk that the input begins with.
 use Prim.Native.Nat.{ℕ, ◌+◌}
-use mathlib.Core.Path.{ap, ◌∙◌}
+use mathlib.Core.Path.{ap}
 use native.Mathlib.Omega.{arith}
-use lib.ListN.{get_or}
-use Rattle.chunk_header.specs.Table.{type_of}
 use Rattle.chunk_header.proofs.Table.{header_most}
-use Rattle.held.proofs.Formats.{small_type}
 use Rattle.one_stroke.specs.declared.message.Seen.{Seen}
 use Rattle.one_stroke.proofs.AtOnce.{sees}
 use Rattle.one_stroke.proofs.message.see.Goals as goal
@@ -25,12 +22,6 @@ returns-then-place-ge-ROWS c = λ some. absurd (some (ap (λ (x : Seen). x.start
 pub returns-then-is_unfit : goal.returns-then-is_unfit
 returns-then-is_unfit c = λ some. absurd (some (ap (λ (x : Seen). x.start) c.unseen-then-is_unfit.ensures))
 
-pub overflow_cast-kind : goal.overflow_cast-kind
-overflow_cast-kind c = omega (arith, c.chunk_type-kind.ensures ∙ ap type_of c.get_format-format.ensures, small_type (get_or c.args.input.now 0 0))
-
-pub overflow_cast-result : goal.overflow_cast-result
-overflow_cast-result c = omega (arith, c.chunk_type-kind.ensures ∙ ap type_of c.get_format-format.ensures, small_type (get_or c.args.input.now 0 0))
-
 pub returns : goal.returns
 returns c =
     λ _.
@@ -39,9 +30,8 @@ returns c =
     let place = c.find-place in
     let row = c.row_or_empty-row in
     let header = c.carried-header in
-    sees a.held.now a.rows.now a.input.now f.result c.chunk_type-kind.result (1 + c.header_length-start.result) place.result c.first_time-time.result row.result header.result
+    sees a.held.now a.rows.now a.input.now f.result (1 + c.header_length-start.result) place.result c.first_time-time.result row.result header.result
     f.ensures
-    c.chunk_type-kind.ensures
     (ap (λ (n : ℕ). 1 + n) c.header_length-start.ensures)
     c.if-byte-lt2.false
     c.if-input-start.false

@@ -3,13 +3,12 @@ use Prim.Native.Nat.{ℕ, ◌+◌, ◌-◌}
 use mathlib.Core.Path.{sym, ap, refl, ◌∙◌}
 use mathlib.Core.List.{[]}
 use native.Mathlib.Omega.{arith}
-use lib.ListN.{get_or, length}
+use lib.ListN.{length}
 use Rattle.fields.specs.Output.{stored}
 use Rattle.fields.proofs.Tests.{never}
 use Rattle.byte_machine.specs.Payload.{paid}
 use Rattle.held.specs.declared.numbers.Held.{Held}
 use Rattle.held.specs.Numbers.{held_of, numbers_of, reader_from, setting_in}
-use Rattle.held.proofs.Formats.{type_small}
 use Rattle.one_stroke.proofs.Strokes.{piece_taken}
 use Rattle.one_stroke.proofs.piece.within.Goals as goal
 
@@ -25,7 +24,7 @@ nearer-requires c =
     let w = c.lies_outside.ensures c.if-lies_outside.false in
     let i = c.held_in-h in
     let room = ap (λ (x : Held). x.room) i.ensures in
-    rw i.ensures (type_small (get_or held 6 0), (w.stage, (omega (arith, (w.lies []).short), omega (arith, (w.lies []).ends, i.type_inv, room))))
+    rw i.ensures (w.stage, (omega (arith, (w.lies []).short), omega (arith, (w.lies []).ends, i.type_inv, room)))
 
 pub returns : goal.returns
 returns c =
