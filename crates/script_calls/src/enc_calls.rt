@@ -2,8 +2,7 @@
 use crate::dec_calls::size;
 use script_said::Said;
 use script_text::{Call, read_call};
-use serializer::{ChunkSerializer, Packet, Serialized};
-use test_calls::refusal_of;
+use serializer::{ChunkSerializer, PacketError, Serialized};
 use test_parts::part;
 use time::RtmpTimestamp;
 
@@ -30,18 +29,18 @@ fn beside(encoder: ChunkSerializer, said: Said) -> Made {
 }
 
 // What a packet says.
-fn told(packet: Packet) -> Said {
+fn told(packet: Result<usize, PacketError>) -> Said {
     match packet {
-        Packet::Written(count) => Said::wrote(count),
-        _ => Said::refused(refusal_of(packet) as u32),
+        Ok(count) => Said::wrote(count),
+        Err(error) => Said::refused(error.number()),
     }
 }
 
 // What a packet would say of its length.
-fn measured(packet: Packet) -> Said {
+fn measured(packet: Result<usize, PacketError>) -> Said {
     match packet {
-        Packet::Written(count) => Said::new(b"length").number(count as u64),
-        _ => told(packet),
+        Ok(count) => Said::new(b"length").number(count as u64),
+        Err(error) => Said::refused(error.number()),
     }
 }
 
