@@ -1,13 +1,5 @@
 -- The check judges by document 02's conditions: each test is true exactly where its condition is broken, and the first that is decides.
-use Prim.Native.Nat.{ℕ, zero, suc, ◌+◌, ◌≤◌, ◌<◌}
-use mathlib.Core.Bool.{Bool, true, false, not, cond, ◌||◌}
-use mathlib.Core.List.{List, [], ◌∷◌}
-use mathlib.Core.Logic.{◌⊎◌, inl, inr}
-use mathlib.Core.Path.{◌≡◌, refl, sym, ap}
-use native.Mathlib.Nat.{eq-or-lt_of_le}
-use native.Mathlib.Omega.{arith}
-use lib.Dec.{ltb}
-use lib.ListN.{length, get_or}
+use Rattle.std.proofs.Common.{ℕ, zero, suc, ◌+◌, ◌≤◌, ◌<◌, Bool, true, false, not, cond, ◌||◌, List, [], ◌∷◌, ◌⊎◌, inl, inr, ◌≡◌, refl, sym, ap, eq-or-lt_of_le, arith, ltb, length, get_or}
 use borrow.Author.Tests.{lt-ltb, ltb-true, ltb-false}
 use Rattle.fields.proofs.Tests.{never}
 use Rattle.drop_plan.specs.Answer.{Judgement, accepted, refused}
@@ -60,7 +52,7 @@ judges_next n {P} {cs} {j} false b later = record {
     broken m (inr h) = (later.refuses m).1 h.1
 
 -- "places rise strictly"
-neighbours : (ks : List ℕ) → rising ks ≡ true → (i : ℕ) → suc i < length ks → get_or ks i 0 < get_or ks (suc i) 0
+pub neighbours : (ks : List ℕ) → rising ks ≡ true → (i : ℕ) → suc i < length ks → get_or ks i 0 < get_or ks (suc i) 0
 unfolding rising
 neighbours [] e i h = absurd (omega arith)
 neighbours (p ∷ []) e i h = absurd (omega arith)
@@ -132,3 +124,7 @@ few n (k ∷ ks) r l =
     let a = at_least (k ∷ ks) r (length ks) last in
     let b = l _ (at_in (k ∷ ks) (length ks) last) in
     omega arith
+
+-- so places that the check finds in order are no more than the packets
+pub few_judged : (n : ℕ) (ks : List ℕ) → rising ks ≡ true → within n ks ≡ true → length ks ≤ n
+few_judged n ks rose lay = few n ks (rising_rises ks rose) (within_lies n ks lay)
