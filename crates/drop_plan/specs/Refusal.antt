@@ -14,6 +14,6 @@ number_of QueueTooLong = 24
 abbrev pub text_of : PlanError → List ℕ
 text_of PlacesDoNotRise = codes "places do not rise"
 text_of PlaceOutsideQueue = codes "a place lies outside the queue"
-text_of UndroppableLeftOut = codes "a packet is left out that is not droppable"
+text_of UndroppableLeftOut = codes "an undroppable packet is left out"
 text_of OverLimit = codes "the kept lengths are over the limit"
 text_of QueueTooLong = codes "the queue has more than 64 packets"

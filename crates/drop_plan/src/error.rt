@@ -31,10 +31,7 @@ impl fmt::Display for PlanError {
         match self {
             PlanError::PlacesDoNotRise => write!(f, "places do not rise"),
             PlanError::PlaceOutsideQueue => write!(f, "a place lies outside the queue"),
-            PlanError::UndroppableLeftOut => write!(
-                f,
-                "a packet is left out that is not droppable"
-            ),
+            PlanError::UndroppableLeftOut => write!(f, "an undroppable packet is left out"),
             PlanError::OverLimit => write!(f, "the kept lengths are over the limit"),
             PlanError::QueueTooLong => write!(f, "the queue has more than 64 packets"),
         }

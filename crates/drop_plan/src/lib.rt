@@ -24,7 +24,7 @@ use crate::queue::Queue;
 pub const MOST: usize = 64;
 
 // Judges a proposal, whoever made it: `Ok` where it is accepted.
-// Kept: the lengths and the marks come as two slices, as `queue` of specs/Queue.antt has them; a slice of packets would shut out slices of two lengths.
+// Kept: two slices, as `queue` of specs/Queue.antt takes them: a slice of packets would shut out slices of different lengths.
 #[tactic(auto, using(std::proofs::lemmas::Bool::Decides::nat_tests), unfolding(crate::specs::Check::judged))]
 pub fn judge(
     lengths: &[u32],
@@ -50,9 +50,9 @@ pub fn judge(
     Ok(())
 }
 
-// Drops the oldest droppable packets until the rest fits, and proposes the places of the rest; none where the packets that are not
-// droppable do not fit.
-// Kept: the lengths and the marks come as two slices, as in `judge`.
+// Drops the oldest droppable packets until the rest fits, and proposes the places of the rest; `None` where the packets that are
+// not droppable do not fit.
+// Kept: two slices, as in `judge`.
 #[tactic(auto, using(crate::proofs::Rest::propose_steps), unfolding(crate::specs::Plan::planned))]
 pub fn propose(lengths: &[u32], droppable: &[bool], limit: u64) -> Result<Option<Places>, PlanError>
     ensures { outcome_of result ≡ planned (queue lengths.now droppable.now) limit }

@@ -1,5 +1,5 @@
 // Places in a queue.
-ghost use Rattle.std.specs.Prelude.{◌≡◌, ◌<◌, [], ◌∷◌, ◌++◌, length, replicate};
+ghost use Rattle.std.specs.Prelude.{◌≡◌, ◌<◌, ◌≤◌, [], ◌∷◌, ◌++◌, length, replicate};
 ghost use Rattle.fields.specs.Output.{over};
 ghost use Rattle.drop_plan.specs.Queue.{most};
 
@@ -52,7 +52,8 @@ impl Places {
 
     // The places.
     pub fn as_slice(&self) -> &[u32]
-        ensures { result.now ≡ self.now }
+        ensures all { result.now ≡ self.now }
+        ensures few { length result.now ≤ most }
     {
         &self.array[..self.count]
     }

@@ -27,7 +27,8 @@ impl<'a> Model for Queue<'a> {
 impl<'a> Queue<'a> {
     // Refuses a queue of more than 64 packets.
     pub fn new(lengths: &'a [u32], droppable: &'a [bool]) -> Result<Queue<'a>, PlanError>
-        ensures { MatchResult result (λ q. (q ≡ queue lengths.now droppable.now) × (size q ≤ most)) (λ e. (e ≡ QueueTooLong) × (most < size (queue lengths.now droppable.now))) }
+        ensures { MatchResult result (λ q. (q ≡ queue lengths.now droppable.now) × (size q ≤ most))
+            (λ e. (e ≡ QueueTooLong) × (most < size (queue lengths.now droppable.now))) }
     {
         if MOST < lengths.len() {
             return Err(PlanError::QueueTooLong);
