@@ -1,6 +1,5 @@
 -- Places rise exactly where each is below the next.
-use Rattle.std.proofs.Common.{◌≡◌, ℕ, suc, ◌+◌, ◌<◌, Bool, true, false, List, [], ◌∷◌, length, get_or, nat_lt, refl, sym, arith, add-one}
-use borrow.Author.Tests.{lt-ltb, ltb-true, ltb-false}
+use Rattle.std.proofs.Common.{◌≡◌, ℕ, suc, ◌+◌, ◌<◌, Bool, true, false, List, [], ◌∷◌, length, get_or, nat_lt, refl, sym, arith, add-one, lt-ltb, ltb-true, ltb-false}
 use Rattle.std.specs.List.{IsAllAdjacentAnswer}
 use Rattle.drop_plan.specs.Check.{rising}
 use Rattle.drop_plan.proofs.Conditions.{neighbours}

@@ -1,7 +1,7 @@
 -- What stays where one packet more may be dropped: it changes at that packet alone, whose length goes where it is droppable.
-use Rattle.std.proofs.Common.{ℕ, zero, suc, ◌+◌, ◌-◌, ◌≤◌, ◌<◌, Bool, true, false, not, cond, List, ◌⊎◌, inl, inr, ◌≡◌, refl, sym, ap, ◌∙◌, add-one, eq-or-lt_of_le, arith, leb, get_or}
+use Rattle.std.proofs.Common.{ℕ, zero, suc, ◌+◌, ◌-◌, ◌≤◌, ◌<◌, Bool, true, false, not, cond, List, ◌⊎◌, inl, inr, ◌≡◌, refl, sym, ap, ◌∙◌, add-one, eq-or-lt_of_le, arith, leb, get_or, leb-true, leb-false, le-leb}
+use Rattle.std.proofs.lemmas.Bool.{lt-leb}
 use Rattle.std.proofs.lemmas.Bool.Decides.{nat_tests}
-use borrow.Author.Tests.{leb-true, leb-false, le-leb, lt-leb}
 use Rattle.drop_plan.specs.Plan.{rest, staying, undroppable, until}
 use Rattle.drop_plan.specs.Queue.{Queue, droppable, length_at, places_from, size, those, total}
 use Rattle.drop_plan.proofs.Steps.{total_those}

@@ -1,10 +1,9 @@
-use Rattle.std.proofs.Common.{get_or, ap, ◌∙◌, sym, rules, arith}
+use Rattle.std.proofs.Common.{get_or, ap, ◌∙◌, sym, rules, arith, tests}
 use Rattle.std.specs.Iterator.Adapters.{filter_callee}
 use Rattle.std.proofs.lemmas.Iterator.{YieldsList-from_map, YieldsList-from_range}
 use Rattle.std.proofs.lemmas.Iterator.Adapters.{at_most_from_Filter, at_most_from_yields_List, fits_from_length}
 use Rattle.std.proofs.lemmas.Iterator.Consumers.{YieldsList-from_filter, sum_by_from_yields_List}
 use Rattle.std.proofs.lemmas.List.FromFn.{length-range_with_len}
-use borrow.Author.Tests.{tests}
 use Rattle.drop_plan.specs.Plan.{staying}
 use Rattle.drop_plan.specs.Queue.{size}
 use Rattle.drop_plan.proofs.Lists.{total_rest}
