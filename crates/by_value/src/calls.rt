@@ -1,82 +1,53 @@
 // The calls of a decoder that goes in by value and comes back.
-use deserializer::{Answer, ChunkDeserializer, Decoded, Telling, Told};
-use script_calls::{message, size};
-use script_said::Said;
-use script_text::read_call;
-use test_parts::part;
+use deserializer::{ChunkDeserializer, Decoded, Told};
+use script_calls::{put_answer, put_told};
+use script_text::{read_hex, read_number};
+use std::fmt;
+use std::fmt::Write;
 
-// What a call answers, and the decoder after it.
-#[derive(Clone, Copy)]
-pub struct Made {
-    pub decoder: ChunkDeserializer,
-    pub said: Said,
+// After `dec new` or `dec size`: puts whether a room or a size was taken. The decoder that was handed back is in place of the last.
+fn put_back(decoder: &mut ChunkDeserializer, told: Told, text: &mut impl Write) -> fmt::Result {
+    *decoder = told.deserializer;
+    put_told(text, told.telling)
 }
 
-// An answer that leaves the decoder as it was.
-fn beside(decoder: ChunkDeserializer, said: Said) -> Made {
-    Made { decoder, said }
+// Makes the call `dec feed`.
+fn feed(
+    decoder: &mut ChunkDeserializer,
+    piece: &[u8],
+    payload: &mut [u8],
+    text: &mut impl Write,
+) -> fmt::Result {
+    let Decoded {
+        deserializer,
+        answer,
+    } = decoder.get_next_message(piece, payload);
+    *decoder = deserializer;
+    put_answer(text, answer, payload)
 }
 
-// Whether a room or a size was taken.
-fn taken(telling: Telling) -> Said {
-    match telling {
-        Telling::Taken => Said::new(b"ok"),
-        Telling::Refused(number) => Said::refused(number as u32),
-    }
-}
-
-// After `dec new` or `dec size`.
-fn told(told: Told) -> Made {
-    let telling = told.telling;
-    let decoder = told.deserializer;
-    beside(decoder, taken(telling))
-}
-
-// What a feed answers.
-fn answered(answer: Answer) -> Said {
-    match answer {
-        Answer::Message {
-            type_id,
-            stream_id,
-            timestamp,
-            length,
-            used,
-        } => message(type_id as u32, stream_id, timestamp.value, length, used),
-        Answer::More { used } => Said::new(b"more").number(used as u64),
-        Answer::Refused { number, used } => Said::refused(number as u32).used(used),
-    }
-}
-
-// After `dec feed`.
-fn fed(decoded: Decoded) -> Made {
-    let answer = decoded.answer;
-    let decoder = decoded.deserializer;
-    beside(decoder, answered(answer))
-}
-
-// Makes the call `dec feed` with the first `buffer` bytes of the payload buffer. More than there are cannot be lent.
-fn feed(decoder: ChunkDeserializer, piece: &[u8], buffer: u32, payload: &mut [u8]) -> Made {
-    let lent = buffer as usize;
-    if payload.len() < lent {
-        return beside(decoder, Said::bad());
-    }
-    fed(decoder.get_next_message(piece, &mut payload[0..lent]))
-}
-
-// Makes the call that the line is.
-pub fn make(decoder: ChunkDeserializer, line: &[u8], bytes: &mut [u8], payload: &mut [u8]) -> Made {
-    let call = read_call(
-        b"dec new ROOM,dec feed BUFFER HEX,dec size SIZE,dec size?",
-        line,
-        bytes,
-    );
-    let number = call.numbers[0];
-    let form = call.form;
-    match form {
-        0 => told(ChunkDeserializer::new(number)),
-        1 => feed(decoder, part(bytes, 0, call.length), number, payload),
-        2 => told(decoder.set_max_chunk_size(number)),
-        3 => beside(decoder, size(decoder.get_max_chunk_size())),
-        _ => beside(decoder, Said::bad()),
+// Makes the call that the words are, and puts its answer; none where they are no call. More payload buffer than there is cannot be
+// lent.
+pub fn make(
+    decoder: &mut ChunkDeserializer,
+    words: &[&str],
+    bytes: &mut [u8],
+    payload: &mut [u8],
+    text: &mut impl Write,
+) -> Option<()> {
+    match *words {
+        ["dec", "new", room] => {
+            put_back(decoder, ChunkDeserializer::new(read_number(room)?), text).ok()
+        }
+        ["dec", "feed", buffer, hex] => {
+            let lent = payload.get_mut(..read_number(buffer)?)?;
+            feed(decoder, read_hex(hex, bytes)?, lent, text).ok()
+        }
+        ["dec", "size", size] => {
+            let told = decoder.set_max_chunk_size(read_number(size)?);
+            put_back(decoder, told, text).ok()
+        }
+        ["dec", "size?"] => write!(text, "size {}", decoder.get_max_chunk_size()).ok(),
+        _ => None,
     }
 }

@@ -4,16 +4,15 @@ use mathlib.Core.Bool.{false, not}
 use mathlib.Core.List.{[], ◌∷◌}
 use mathlib.Core.Path.{◌≡◌, refl}
 use lib.Dec.{eqb, leb, ltb}
+use Rattle.std.specs.Prelude.{Option, Some, None}
 use Rattle.chunk_header.specs.declared.ChunkHeaderFormat.{ChunkHeaderFormat}
-use Rattle.chunk_header.specs.declared.Csid.{Csid}
-use Rattle.chunk_header.specs.declared.Csid.TheVariants.{Id, Incomplete}
 use Rattle.chunk_header.specs.declared.HeaderField.{HeaderField}
 use Rattle.chunk_header.specs.declared.HeaderField.TheVariants.{Timestamp, MessageLength as Length, MessageTypeId as TypeId, MessageStreamId as StreamId}
 use Rattle.chunk_header.specs.Basic.{csid}
 use Rattle.chunk_header.specs.Limits.{max_field}
 use Rattle.chunk_header.specs.Table.{format_of}
 use Rattle.chunk_meaning.specs.Meaning.{basic_refusal, first_refusal, later_refusal}
-use Rattle.byte_machine.specs.Reader.{Go, Reader, Stage, Csid as AtCsid, CsidSecond, CsidThird, InitialTimestamp, MessageLength, MessageTypeId, MessageStreamId, ExtendedTimestamp, MessagePayload, Stepped, Unfinished, at, at_start, come_of, go, guard, in_payload, refuse}
+use Rattle.byte_machine.specs.Reader.{Go, Reader, Stage, Csid, CsidSecond, CsidThird, InitialTimestamp, MessageLength, MessageTypeId, MessageStreamId, ExtendedTimestamp, MessagePayload, Stepped, Unfinished, at, at_start, come_of, go, guard, in_payload, refuse}
 use Rattle.byte_machine.specs.Header.{extended_next, lacks, length_next, opens, stage_of, stream_next, timestamp_next, type_next, whole}
 use Rattle.byte_machine.specs.Rows.{row_count}
 use Rattle.byte_machine.specs.Step.{basic_by, extended_field_step, length_field_step, named, stepped, stream_field_step, timestamp_field_step, type_field_step}
@@ -79,13 +78,13 @@ module _ (P : Stepped → Type 0) (m : Unfinished) (setting : Setting)
       (either P (ltb said.place row_count) (timestamp_at _ e) (goes _ _ e (record { begun = refl; no_payload = refl })))
       (refuses r k)
 
-  at_basic : (x : Csid) (ask : ℕ → Look) (r : Reader) (f : ChunkHeaderFormat) (kept : Stage) → r.message ≡ m → Amid kept → P (basic_by x setting ask r f kept)
-  at_basic (Id id) ask r f kept e a = at_named (ask id) r f id e
-  at_basic Incomplete ask r f kept e a = goes_to r kept e a
+  at_basic : (x : Option ℕ) (ask : ℕ → Look) (r : Reader) (f : ChunkHeaderFormat) (kept : Stage) → r.message ≡ m → Amid kept → P (basic_by x setting ask r f kept)
+  at_basic (Some id) ask r f kept e a = at_named (ask id) r f id e
+  at_basic None ask r f kept e a = goes_to r kept e a
 
   pub header_step : (stage : Stage) (ask : ℕ → Look) (r : Reader) (b : ℕ) → r.message ≡ m → P (stepped stage setting ask r b)
   unfolding timestamp_field_step length_field_step type_field_step stream_field_step extended_field_step
-  header_step AtCsid ask r b e = at_basic (csid (b ∷ [])) ask r (format_of b) (CsidSecond b) e (record { begun = refl; no_payload = refl })
+  header_step Csid ask r b e = at_basic (csid (b ∷ [])) ask r (format_of b) (CsidSecond b) e (record { begun = refl; no_payload = refl })
   header_step (CsidSecond x) ask r b e = at_basic (csid (x ∷ b ∷ [])) ask r (format_of x) (CsidThird x b) e (record { begun = refl; no_payload = refl })
   header_step (CsidThird x y) ask r b e = at_basic (csid (x ∷ y ∷ b ∷ [])) ask r (format_of x) (CsidThird x y) e (record { begun = refl; no_payload = refl })
   header_step (InitialTimestamp before n) ask r b e =

@@ -1,14 +1,12 @@
 -- What a byte of a header does, by the field that it belongs to (document 01, "Decoder").
-use Rattle.std.specs.Prelude.{ℕ, ◌+◌, ◌-◌, ◌*◌, ◌%◌, ◌^◌, cond, not, List, [], ◌∷◌, ltb, leb, eqb, get_or}
+use Rattle.std.specs.Prelude.{ℕ, ◌+◌, ◌-◌, ◌*◌, ◌%◌, ◌^◌, cond, not, List, [], ◌∷◌, ltb, leb, eqb, get_or, Option, Some, None}
 use Rattle.fields.specs.Endian.{swapped}
 use Rattle.chunk_header.specs.declared.ChunkHeaderFormat.{ChunkHeaderFormat}
-use Rattle.chunk_header.specs.declared.Csid.{Csid}
-use Rattle.chunk_header.specs.declared.Csid.TheVariants.{Id, Incomplete}
 use Rattle.chunk_header.specs.Basic.{csid}
 use Rattle.chunk_header.specs.Table.{format_of}
 use Rattle.chunk_meaning.specs.Stored.{Row, claimed, fielded, lengthed, streamed, typed}
 use Rattle.chunk_meaning.specs.Meaning.{basic_refusal}
-use Rattle.byte_machine.specs.Reader.{Go, Reader, Stage, Csid as AtCsid, CsidSecond, CsidThird, InitialTimestamp, MessageLength, MessageTypeId, MessageStreamId, ExtendedTimestamp, MessagePayload, Stepped, at, go, guard, headed, reading, refuse}
+use Rattle.byte_machine.specs.Reader.{Go, Reader, Stage, Csid, CsidSecond, CsidThird, InitialTimestamp, MessageLength, MessageTypeId, MessageStreamId, ExtendedTimestamp, MessagePayload, Stepped, at, go, guard, headed, reading, refuse}
 use Rattle.byte_machine.specs.Header.{extended_next, length_next, stream_next, timestamp_next, type_next, whole}
 use Rattle.byte_machine.specs.Look.{Look}
 use Rattle.byte_machine.specs.Rows.{row_count}
@@ -30,9 +28,9 @@ named setting said r format id =
     (refuse r k)
 
 -- a basic header so far: an id, of which the table is asked, or kept until more of it has come
-abbrev pub basic_by : Csid → Setting → (ask : ℕ → Look) → Reader → ChunkHeaderFormat → (kept : Stage) → Stepped
-basic_by (Id id) setting ask r format kept = named setting (ask id) r format id
-basic_by Incomplete setting ask r format kept = go (at r kept)
+abbrev pub basic_by : Option ℕ → Setting → (ask : ℕ → Look) → Reader → ChunkHeaderFormat → (kept : Stage) → Stepped
+basic_by (Some id) setting ask r format kept = named setting (ask id) r format id
+basic_by None setting ask r format kept = go (at r kept)
 
 abbrev pub basic : Setting → (ask : ℕ → Look) → Reader → (bytes : List ℕ) → (kept : Stage) → Stepped
 basic setting ask r bytes kept = basic_by (csid bytes) setting ask r (format_of (get_or bytes 0 0)) kept
@@ -68,7 +66,7 @@ extended_field_step setting r before lacks b = field_byte before lacks b (λ n. 
 
 -- a byte of a header, by the field that it belongs to; a byte of a payload never comes here
 abbrev pub stepped : Stage → Setting → (ask : ℕ → Look) → Reader → (byte : ℕ) → Stepped
-stepped AtCsid setting ask r b = basic setting ask r (b ∷ []) (CsidSecond b)
+stepped Csid setting ask r b = basic setting ask r (b ∷ []) (CsidSecond b)
 stepped (CsidSecond a) setting ask r b = basic setting ask r (a ∷ b ∷ []) (CsidThird a b)
 stepped (CsidThird a c) setting ask r b = basic setting ask r (a ∷ c ∷ b ∷ []) (CsidThird a c)
 stepped (InitialTimestamp before lacks) setting ask r b = timestamp_field_step setting r before lacks b

@@ -38,13 +38,6 @@ pub struct ChunkHeader {
     pub can_be_dropped: bool,
 }
 
-// A basic header, as far as it has come.
-#[derive(Clone, Copy)]
-pub enum Csid {
-    Id(u32),
-    Incomplete,
-}
-
 // A time field that says that an extended time follows.
 pub const MAX_INITIAL_TIMESTAMP: u32 = 16777215;
 

@@ -14,7 +14,7 @@ use Rattle.chunk_header.specs.declared.HeaderField.{HeaderField}
 use Rattle.chunk_header.specs.declared.HeaderField.TheVariants.{Timestamp, MessageLength as Length, MessageTypeId as TypeId, MessageStreamId as StreamId}
 use Rattle.chunk_header.specs.Table.{field_length, format_of, index_of, type_of, is_empty, is_full}
 use Rattle.decoding.specs.Decoder.{Decoder}
-use Rattle.byte_machine.specs.Reader.{Go, Chunk, Message, Refuse, Reader, Stage, Csid as AtCsid, CsidSecond, CsidThird, InitialTimestamp, MessageLength, MessageTypeId, MessageStreamId, ExtendedTimestamp, MessagePayload, Stepped, at, current, ended, go, headed, in_payload, paused, reader, refuse, unfinished}
+use Rattle.byte_machine.specs.Reader.{Go, Chunk, Message, Refuse, Reader, Stage, Csid, CsidSecond, CsidThird, InitialTimestamp, MessageLength, MessageTypeId, MessageStreamId, ExtendedTimestamp, MessagePayload, Stepped, at, current, ended, go, headed, in_payload, paused, reader, refuse, unfinished}
 use Rattle.chunk_meaning.specs.Stored.{Row, fielded, lengthed, streamed, timed, typed}
 use Rattle.byte_machine.specs.Payload.{landed, paid, pays}
 use Rattle.byte_machine.specs.Step.{basic, basic_by, claims, extended_field_step, gathered, known, length_field_step, named, stepped, stream_field_step, timestamp_field_step, type_field_step}
@@ -35,7 +35,7 @@ use Rattle.byte_machine.specs.Look.{look}
 
 -- the fields that a chunk inside a message has only in a full header
 abbrev pub early : Stage → Bool
-early AtCsid = false
+early Csid = false
 early (CsidSecond a) = false
 early (CsidThird a b) = false
 early (InitialTimestamp before lacks) = true
@@ -334,7 +334,7 @@ module _ (setting : Setting) (L : ℕ) (some : 0 < setting.size) where
   byte_fits : (stage : Stage) (rows : List ℕ) (r : Reader) (b : ℕ) → r.stage ≡ stage → past stage ≡ true → in_payload stage ≡ false → Fits room L r
       → Fitting room L r.message.id (stepped stage setting (look rows) r b)
   unfolding timestamp_field_step length_field_step type_field_step stream_field_step extended_field_step
-  byte_fits AtCsid rows r b e p q f = never p
+  byte_fits Csid rows r b e p q f = never p
   byte_fits (CsidSecond a) rows r b e p q f = never p
   byte_fits (CsidThird a c) rows r b e p q f = never p
   byte_fits (InitialTimestamp before lacks) rows r b e p q f =
@@ -365,7 +365,7 @@ module _ (setting : Setting) (L : ℕ) (some : 0 < setting.size) where
 
 -- so is a stage of such a field
 early_past : (stage : Stage) → early stage ≡ true → past stage ≡ true
-early_past AtCsid e = e
+early_past Csid e = e
 early_past (CsidSecond a) e = e
 early_past (CsidThird a b) e = e
 early_past (InitialTimestamp before lacks) e = refl
@@ -487,7 +487,7 @@ basic_fits setting rows r bytes kept p q some s f =
 stepped_fits : (stage : Stage) (setting : Setting) (rows : List ℕ) (r : Reader) (b : ℕ) → r.stage ≡ stage → in_payload stage ≡ false → 0 < setting.size → Sound rows r
     → Fits setting.room (length_of rows r.message.id) r
     → Fitting setting.room (length_of rows r.message.id) r.message.id (stepped stage setting (look rows) r b)
-stepped_fits AtCsid setting rows r b e p some s f = basic_fits setting rows r (b ∷ []) (CsidSecond b) (rw e) refl some s f
+stepped_fits Csid setting rows r b e p some s f = basic_fits setting rows r (b ∷ []) (CsidSecond b) (rw e) refl some s f
 stepped_fits (CsidSecond a) setting rows r b e p some s f = basic_fits setting rows r (a ∷ b ∷ []) (CsidThird a b) (rw e) refl some s f
 stepped_fits (CsidThird a c) setting rows r b e p some s f = basic_fits setting rows r (a ∷ c ∷ b ∷ []) (CsidThird a c) (rw e) refl some s f
 stepped_fits (InitialTimestamp before lacks) setting rows r b e p some s f = byte_fits setting _ some (InitialTimestamp before lacks) rows r b e refl refl f

@@ -4,9 +4,9 @@ use mathlib.Core.Path.{◌≡◌, refl, ◌∙◌}
 use mathlib.Core.List.{List, [], ◌∷◌, ◌++◌}
 use native.Mathlib.Omega.{arith}
 use lib.ListN.{length}
+use Rattle.std.specs.Prelude.{Some}
 use Rattle.fields.specs.Endian.{little_endian}
 use Rattle.chunk_header.specs.declared.ChunkHeaderFormat.{ChunkHeaderFormat}
-use Rattle.chunk_header.specs.declared.Csid.TheVariants.{Id}
 use Rattle.chunk_header.specs.Basic.{csid}
 use Rattle.chunk_header.specs.Layout.{Form, one, two, three, basic_bytes, FormFits}
 use Rattle.chunk_header.specs.Table.{type_of}
@@ -34,7 +34,7 @@ module _ (d : Decoder) (r : Reader) (f : ChunkHeaderFormat) (payload : List ℕ)
   one_byte id p q =
       let b = 64 * type_of f + id in
       let l : b % 64 ≡ id = low_bits (type_of f) id (omega arith) in
-      let c : csid (b ∷ []) ≡ Id (b % 64) = csid_small (b ∷ []) (omega arith) (λ e. absurd (omega arith)) (λ e. absurd (omega arith)) in
+      let c : csid (b ∷ []) ≡ Some (b % 64) = csid_small (b ∷ []) (omega arith) (λ e. absurd (omega arith)) (λ e. absurd (omega arith)) in
       record { stage = Csid; held = at r Csid; reached = run_header b rest (holding d (at r Csid)) payload n refl ∙ (rw (c, l, format_back f id (omega arith))) }
 
   two_bytes : (id : ℕ) → 64 ≤ id → id ≤ 319 → BasicRead two id

@@ -7,11 +7,10 @@ use mathlib.Core.Path.{◌≡◌, refl, sym, ◌∙◌}
 use native.Mathlib.Omega.{arith}
 use lib.Dec.{eqb, ltb, leb}
 use borrow.Author.Tests.{eqb-false}
+use Rattle.std.specs.Prelude.{Option, Some, None}
 use Rattle.chunk_header.specs.declared.ChunkHeaderFormat.{ChunkHeaderFormat}
-use Rattle.chunk_header.specs.declared.Csid.{Csid}
 use Rattle.chunk_header.specs.declared.HeaderField.TheVariants.{Timestamp, MessageLength as Length, MessageTypeId as TypeId, MessageStreamId as StreamId}
-use Rattle.chunk_header.specs.declared.Csid.TheVariants.{Id, Incomplete}
-use Rattle.byte_machine.specs.Reader.{Event, Go, Chunk, Message, Refuse, Reader, Stage, Csid as AtCsid, CsidSecond, CsidThird, InitialTimestamp, MessageLength, MessageTypeId, MessageStreamId, ExtendedTimestamp, MessagePayload, Stepped, in_payload, refuse}
+use Rattle.byte_machine.specs.Reader.{Event, Go, Chunk, Message, Refuse, Reader, Stage, Csid, CsidSecond, CsidThird, InitialTimestamp, MessageLength, MessageTypeId, MessageStreamId, ExtendedTimestamp, MessagePayload, Stepped, in_payload, refuse}
 use Rattle.byte_machine.specs.Header.{extended_next, lacks, length_next, opens, stream_next, timestamp_next, type_next, whole}
 use Rattle.byte_machine.specs.Payload.{landed, pays}
 use Rattle.byte_machine.specs.Rows.{row_count}
@@ -89,13 +88,13 @@ module _ (setting : Setting) where
         tested (basic_refusal format (ltb said.place row_count) (ltb said.unused row_count) (not (eqb r.message.id 0)) (eqb r.message.id id)) r _
         (either (ltb said.place row_count) _ _ (time_numbered _) (goes _ _))
 
-    basic_numbered : (c : Csid) (format : ChunkHeaderFormat) (kept : Stage) → Numbered (basic_by c setting ask r format kept)
-    basic_numbered (Id id) format kept = named_numbered format id
-    basic_numbered Incomplete format kept = goes _ _
+    basic_numbered : (c : Option ℕ) (format : ChunkHeaderFormat) (kept : Stage) → Numbered (basic_by c setting ask r format kept)
+    basic_numbered (Some id) format kept = named_numbered format id
+    basic_numbered None format kept = goes _ _
 
     stepped_numbered : (stage : Stage) (b : ℕ) → Numbered (stepped stage setting ask r b)
     unfolding timestamp_field_step length_field_step type_field_step stream_field_step extended_field_step
-    stepped_numbered AtCsid b = basic_numbered (csid (b ∷ [])) _ _
+    stepped_numbered Csid b = basic_numbered (csid (b ∷ [])) _ _
     stepped_numbered (CsidSecond a) b = basic_numbered (csid (a ∷ b ∷ [])) _ _
     stepped_numbered (CsidThird a c) b = basic_numbered (csid (a ∷ c ∷ b ∷ [])) _ _
     stepped_numbered (InitialTimestamp before lacks) b = either (leb lacks 1) _ _ (length_numbered _) (goes _ _)

@@ -8,14 +8,13 @@ use native.Mathlib.Omega.{arith}
 use lib.Dec.{eqb, ltb, leb}
 use lib.ListN.{length, get_or}
 use borrow.Author.Tests.{eqb-true, eqb-false, lt-ltb, ltb-true, ltb-false}
+use Rattle.std.specs.Prelude.{Option, Some, None}
 use Rattle.chunk_header.specs.declared.ChunkHeaderFormat.{ChunkHeaderFormat}
-use Rattle.chunk_header.specs.declared.Csid.{Csid}
-use Rattle.chunk_header.specs.declared.Csid.TheVariants.{Id, Incomplete}
 use Rattle.chunk_header.specs.Basic.{after_one, after_zero, csid}
 use Rattle.chunk_header.specs.Table.{format_of}
 use Rattle.decoding.specs.Decoder.{Decoder}
 use Rattle.chunk_header.specs.declared.HeaderField.{HeaderField}
-use Rattle.byte_machine.specs.Reader.{Reader, Stage, Csid as AtCsid, CsidSecond, CsidThird, InitialTimestamp, MessageLength, MessageTypeId, MessageStreamId, ExtendedTimestamp, MessagePayload, Stepped, at, current, ended, go, in_payload, paused, reader, refuse}
+use Rattle.byte_machine.specs.Reader.{Reader, Stage, Csid, CsidSecond, CsidThird, InitialTimestamp, MessageLength, MessageTypeId, MessageStreamId, ExtendedTimestamp, MessagePayload, Stepped, at, current, ended, go, in_payload, paused, reader, refuse}
 use Rattle.byte_machine.specs.Payload.{landed, paid, pays}
 use Rattle.byte_machine.specs.Step.{basic, basic_by, claims, extended_field_step, known, length_field_step, named, stepped, stream_field_step, timestamp_field_step, type_field_step}
 use Rattle.byte_machine.specs.Header.{stage_of, extended_next, lacks, length_next, opens, stream_next, timestamp_next, type_next, whole}
@@ -33,7 +32,7 @@ use Rattle.byte_machine.specs.Look.{look}
 
 -- the basic header is whole: a field of the header comes, or payload
 abbrev pub past : Stage → Bool
-past AtCsid = false
+past Csid = false
 past (CsidSecond a) = false
 past (CsidThird a b) = false
 past (InitialTimestamp before lacks) = true
@@ -151,7 +150,7 @@ module _ (rows : List ℕ) where
   field_stays : (stage : Stage) (setting : Setting) (r : Reader) (b : ℕ) → past stage ≡ true → HasRow rows r.message.id
       → StaysAt rows r (stepped stage setting (look rows) r b)
   unfolding timestamp_field_step length_field_step type_field_step stream_field_step extended_field_step
-  field_stays AtCsid setting r b p h = never p
+  field_stays Csid setting r b p h = never p
   field_stays (CsidSecond a) setting r b p h = never p
   field_stays (CsidThird a c) setting r b p h = never p
   field_stays (InitialTimestamp before lacks) setting r b p h = either (StaysAt rows r) (leb lacks 1) (length_stays setting _ h) (go_stays _ h)
@@ -162,12 +161,12 @@ module _ (rows : List ℕ) where
   field_stays MessagePayload setting r b p h = refuse_stays r 255 h
 
 -- a basic header that is whole gives an id other than 0
-pub csid_used : (P : Csid → Type 0) (bytes : List ℕ) → P Incomplete → ((id : ℕ) → id ≢ 0 → P (Id id)) → P (csid bytes)
+pub csid_used : (P : Option ℕ → Type 0) (bytes : List ℕ) → P None → ((id : ℕ) → id ≢ 0 → P (Some id)) → P (csid bytes)
 unfolding csid
 csid_used P [] more whole = more
 csid_used P (b ∷ bs) more whole = by_cases (eqb (b % 64) 0) (eqb (b % 64) 1) refl bs
   where
-    by_cases : (t u : Bool) → eqb (b % 64) 0 ≡ t → (rest : List ℕ) → P (cond t (after_zero rest) (cond u (after_one rest) (Id (b % 64))))
+    by_cases : (t u : Bool) → eqb (b % 64) 0 ≡ t → (rest : List ℕ) → P (cond t (after_zero rest) (cond u (after_one rest) (Some (b % 64))))
     by_cases true u e [] = more
     by_cases true u e (x ∷ xs) = whole (x + 64) (λ z. omega arith)
     by_cases false true e [] = more
@@ -263,7 +262,7 @@ field_sound stage setting rows r b p q s =
 -- a byte, by the stage
 stepped_sound : (stage : Stage) (setting : Setting) (rows : List ℕ) (r : Reader) (b : ℕ) → r.stage ≡ stage → Sound rows r
     → Leaves rows (stepped stage setting (look rows) r b)
-stepped_sound AtCsid setting rows r b e s = basic_sound setting rows r (b ∷ []) (CsidSecond b) s (rw e) refl
+stepped_sound Csid setting rows r b e s = basic_sound setting rows r (b ∷ []) (CsidSecond b) s (rw e) refl
 stepped_sound (CsidSecond a) setting rows r b e s = basic_sound setting rows r (a ∷ b ∷ []) (CsidThird a b) s (rw e) refl
 stepped_sound (CsidThird a c) setting rows r b e s = basic_sound setting rows r (a ∷ c ∷ b ∷ []) (CsidThird a c) s (rw e) refl
 stepped_sound (InitialTimestamp before lacks) setting rows r b e s = field_sound (InitialTimestamp before lacks) setting rows r b (rw e) refl s
@@ -275,7 +274,7 @@ stepped_sound MessagePayload setting rows r b e s = field_sound MessagePayload s
 
 -- a stage of payload is past the basic header
 pub in_payload_past : (stage : Stage) → in_payload stage ≡ true → past stage ≡ true
-in_payload_past AtCsid e = e
+in_payload_past Csid e = e
 in_payload_past (CsidSecond a) e = e
 in_payload_past (CsidThird a b) e = e
 in_payload_past (InitialTimestamp before lacks) e = refl

@@ -1,5 +1,5 @@
 -- An answer that can be told from its listing is decided by it, and so any two answers that a promise allows are equal.
-use mathlib.Core.Path.{◌≡◌, sym, ap, ◌∙◌}
+use Rattle.std.proofs.Common.{◌≡◌, sym, ap, ◌∙◌}
 use Rattle.fields.specs.Deciding.{Decides}
 
 -- a listing from which the answer can be told

@@ -1,26 +1,7 @@
 -- Writing a number and reading it back, and reading bytes and writing them back, both by digits in base 256.
-use Prim.Native.Nat.{ℕ, zero, suc, ◌+◌, ◌-◌, ◌*◌, ◌/◌, ◌%◌, ◌^◌, ◌≤◌, ◌<◌}
-use mathlib.Core.Path.{◌≡◌, refl, ap, ◌∙◌}
-use mathlib.Core.List.{List, [], ◌∷◌, ◌++◌}
-use native.Mathlib.Omega.{arith}
-use native.Mathlib.Nat.{
-  add_assoc,
-  add-mul,
-  mul_assoc,
-  mul_comm,
-  one-mul,
-  pow-suc,
-  pow-le-pow_right,
-  lt_of_lt_of_le,
-  mod-eq_of_lt,
-  div-lt_iff_lt-mul,
-  div-div-eq-div-mul,
-}
-use lib.Dec.{lit<}
+use Rattle.std.proofs.Common.{◌≡◌, ℕ, zero, suc, ◌+◌, ◌-◌, ◌*◌, ◌/◌, ◌%◌, ◌^◌, ◌<◌, ◌≤◌, List, [], ◌∷◌, ◌++◌, length, get_or, take, drop, set, refl, ap, ◌∙◌, lt_of_lt_of_le, add_assoc, mod-eq_of_lt, mul_assoc, mul_comm, div-lt_iff_lt-mul, add-mul, one-mul, pow-suc, add-one, arith, lit<, length-set, drop-cons, take-suc, get_or-set_same, drop-set-lt}
+use native.Mathlib.Nat.{pow-le-pow_right, div-div-eq-div-mul}
 use lib.Arith.{mod-mul}
-use native.Mathlib.Numerals.{add-one}
-use lib.ListN.{length, take, drop, set, get_or, length-set}
-use lib.Seq.{take-suc, drop-cons, get_or-set_same, drop-set-lt}
 use Rattle.fields.specs.Endian.{big_endian, little_endian, gather, number, Bytes}
 
 pub length_big : (n x : ℕ) → length (big_endian n x) ≡ n

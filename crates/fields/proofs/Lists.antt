@@ -1,14 +1,7 @@
 -- Bytes stored one run after the other, and the numbers that parts of bytes mean.
-use Prim.Native.Nat.{ℕ, zero, suc, ◌+◌, ◌%◌, ◌^◌, ◌≤◌, ◌<◌}
-use mathlib.Core.Path.{◌≡◌, refl, sym, ap, subst, ◌∙◌}
-use mathlib.Core.List.{List, [], ◌∷◌, ◌++◌, append_assoc, append-nil}
-use native.Mathlib.Omega.{arith}
-use mathlib.Core.Bool.{Bool, true, false, cond}
-use lib.Dec.{leb}
-use native.Mathlib.Nat.{add_assoc, add-zero, add-suc, suc-add}
-use lib.ListN.{length, take, drop, set, length-append, length-take, length-drop, drop_of_length-le}
-use lib.Seq.{length-take-le, length-sets, sets, sets-eq, take-append_seam, take_at, drop-append-add, drop-drop, get_or-drop}
-use borrow.Author.Tests.{le-leb, lt-leb}
+use Rattle.std.proofs.Common.{◌≡◌, ℕ, zero, suc, ◌+◌, ◌%◌, ◌^◌, ◌<◌, ◌≤◌, Bool, true, false, cond, leb, List, [], ◌∷◌, ◌++◌, length, take, drop, set, sym, refl, ap, ◌∙◌, subst, append_assoc, append-nil, add-zero, add_assoc, add-suc, suc-add, arith, length-append, length-drop, drop_of_length-le, length-take, length-take-le, get_or-drop, drop-drop, take_at, le-leb}
+use lib.Seq.{length-sets, sets, sets-eq, take-append_seam, drop-append-add}
+use borrow.Author.Tests.{lt-leb}
 use Rattle.fields.specs.Endian.{big_endian, number, Bytes}
 use Rattle.fields.specs.Output.{Adds, over, stored}
 use Rattle.fields.proofs.Endian.{number_fits, big_gather}

@@ -1,9 +1,5 @@
 -- A rule of a table, proved once: the table is what the rule gives at 0, 1, 2 and so on, which is computed, so each entry is the rule's.
-use Prim.Native.Nat.{ℕ, zero, suc, ◌<◌}
-use mathlib.Core.Path.{◌≡◌, refl}
-use mathlib.Core.List.{List, [], ◌∷◌}
-use native.Mathlib.Nat.{le_of_suc-le-suc, not-suc-le-zero}
-use lib.ListN.{get_or}
+use Rattle.std.proofs.Common.{◌≡◌, ℕ, zero, suc, ◌<◌, List, [], ◌∷◌, get_or, refl, le_of_suc-le-suc, not-suc-le-zero}
 
 abbrev pub tabulate : {A : Type 0} → (ℕ → A) → ℕ → List A
 tabulate f zero = []

@@ -1,9 +1,5 @@
 -- The two ways bytes are written: the output is too short and stays as it is, or takes them at its start.
-use Prim.Native.Nat.{ℕ, ◌≤◌, ◌<◌}
-use mathlib.Core.List.{List}
-use mathlib.Core.Path.{◌≡◌}
-use lib.ListN.{length}
-use borrow.Author.Tests.{lt-ltb, le-ltb}
+use Rattle.std.proofs.Common.{◌≡◌, ℕ, ◌<◌, ◌≤◌, List, length, le-ltb, lt-ltb}
 use Rattle.fields.specs.Output.{over}
 use Rattle.fields.specs.Writing.{outcome, refuse, writing, wrote}
 

@@ -24,10 +24,8 @@ fn read_number(bytes: &[u8]) -> u32
     ensures { result ≡ number bytes.now % 2 ^ 32 }
 {
     let mut value: u32 = 0;
-    let mut i = 0;
-    while i < bytes.len() {
-        value = value % 16777216 * 256 + wide(bytes[i]);
-        i += 1;
+    for byte in bytes {
+        value = value % 16777216 * 256 + u32::from(*byte);
     }
     value
 }
@@ -37,11 +35,9 @@ fn write_number(value: u32, output: &mut [u8])
     ensures { output.new ≡ big_endian (length output.old) value }
 {
     let mut rest = value;
-    let mut i = output.len();
-    while 0 < i {
-        i -= 1;
+    for i in (0..output.len()).rev() {
         output[i] = (rest % 256) as u8;
-        rest = rest / 256;
+        rest /= 256;
     }
 }
 
@@ -49,58 +45,33 @@ fn write_number(value: u32, output: &mut [u8])
 pub fn number_at(bytes: &[u8], at: usize, width: usize) -> u32
     ensures { result ≡ number (take width (drop at bytes.now)) % 2 ^ 32 }
 {
-    if bytes.len() <= at {
+    let Some(rest) = bytes.get(at..) else {
         return 0;
-    }
-    if bytes.len() - at < width {
-        return read_number(&bytes[at..]);
-    }
-    read_number(&bytes[at..at + width])
+    };
+    read_number(&rest[..width.min(rest.len())])
 }
 
 // Puts the last `width` bytes of `value` from `at` on; where the output does not reach that far it stays as it is.
 pub fn put_number(value: u32, width: usize, output: &mut [u8], at: usize)
     ensures { output.new ≡ stored output.old at (big_endian width value) }
 {
-    if output.len() < width {
-        return;
+    if width <= output.len() && at <= output.len() - width {
+        write_number(value, &mut output[at..at + width]);
     }
-    if output.len() - width < at {
-        return;
-    }
-    write_number(value, &mut output[at..at + width]);
 }
 
 // The number of the same four bytes in the other order.
 pub fn swap_bytes(value: u32) -> u32
     ensures { result ≡ swapped value }
 {
-    value % 256 * 16777216
-        + value / 256 % 256 * 65536
-        + value / 65536 % 256 * 256
-        + value / 16777216
-}
-
-fn copy(bytes: &[u8], output: &mut [u8])
-    requires { length output.old ≡ length bytes.now }
-    ensures { output.new ≡ bytes.now }
-{
-    let mut i = 0;
-    while i < bytes.len() {
-        output[i] = bytes[i];
-        i += 1;
-    }
+    value.swap_bytes()
 }
 
 // Puts the bytes from `at` on; where the output does not reach that far it stays as it is.
 pub fn put_bytes(bytes: &[u8], output: &mut [u8], at: usize)
     ensures { output.new ≡ stored output.old at bytes.now }
 {
-    if output.len() < bytes.len() {
-        return;
+    if bytes.len() <= output.len() && at <= output.len() - bytes.len() {
+        output[at..at + bytes.len()].copy_from_slice(bytes);
     }
-    if output.len() - bytes.len() < at {
-        return;
-    }
-    copy(bytes, &mut output[at..at + bytes.len()]);
 }

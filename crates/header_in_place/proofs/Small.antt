@@ -6,9 +6,8 @@ use mathlib.Core.List.{List, [], ◌∷◌}
 use native.Mathlib.Omega.{arith}
 use lib.Dec.{eqb, leb, ltb}
 use lib.ListN.{get_or}
+use Rattle.std.specs.Prelude.{Option, Some, None}
 use Rattle.chunk_header.specs.declared.ChunkHeaderFormat.{ChunkHeaderFormat}
-use Rattle.chunk_header.specs.declared.Csid.{Csid as Read}
-use Rattle.chunk_header.specs.declared.Csid.TheVariants.{Id, Incomplete}
 use Rattle.chunk_header.specs.declared.HeaderField.{HeaderField}
 use Rattle.chunk_header.specs.declared.HeaderField.TheVariants.{Timestamp, MessageLength as Length, MessageTypeId as TypeId, MessageStreamId as StreamId}
 use Rattle.chunk_header.specs.Basic.{csid}
@@ -74,9 +73,9 @@ module _ (setting : Setting) where
         (either Small (ltb place row_count) (at_timestamp Small setting there (λ field e. stops_small there field (lacks there field)) (extended_small there h)) (none {s = claims r format id (free rows)} refl))
         (small {s = refuse r k} h)
 
-    basic_small : (read : Read) (rows : List ℕ) (format : ChunkHeaderFormat) (kept : Stage) → third kept < 256 → Small (basic_by read setting (look rows) r format kept)
-    basic_small (Id id) rows format kept k = named_small rows format id
-    basic_small Incomplete rows format kept k = small k
+    basic_small : (read : Option ℕ) (rows : List ℕ) (format : ChunkHeaderFormat) (kept : Stage) → third kept < 256 → Small (basic_by read setting (look rows) r format kept)
+    basic_small (Some id) rows format kept k = named_small rows format id
+    basic_small None rows format kept k = small k
 
     stepped_small : (st : Stage) (rows : List ℕ) (b : ℕ) → third st < 256 → b < 256 → Small (stepped st setting (look rows) r b)
     unfolding timestamp_field_step length_field_step type_field_step stream_field_step extended_field_step

@@ -9,7 +9,6 @@ ghost use Rattle.held.specs.Done.{done_of};
 ghost use Rattle.header_in_place.specs.Byte.{bytes_of, kept_of, step_in};
 ghost use Rattle.held.specs.Numbers.{format_from, meant, reader_from, row_from, setting_in, stage_in};
 
-use chunk_header::Csid;
 use held::{Done, Held, HeldRow, ROWS, TABLE_LENGTH, find, first_free, goes, refused, row_in};
 use settling::{basic_refusal, timestamp_next};
 
@@ -110,49 +109,49 @@ fn named(h: Held, rows: &[u32; TABLE_LENGTH], first: u32, id: u32) -> Done
 }
 
 // A basic header of one byte, of two and of three: an id, or more of it has to come.
-fn one(a: u32) -> Csid
+fn one(a: u32) -> Option<u32>
     ensures { result ≡ csid (a ∷ []) }
 {
     let n = a % 64;
     if n < 2 {
-        return Csid::Incomplete;
+        return None;
     }
-    Csid::Id(n)
+    Some(n)
 }
 
-fn two(a: u32, b: u32) -> Csid
+fn two(a: u32, b: u32) -> Option<u32>
     requires { b ≤ 255 }
     ensures { result ≡ csid (a ∷ b ∷ []) }
 {
     let n = a % 64;
     if n == 0 {
         let id = b + 64;
-        return Csid::Id(id);
+        return Some(id);
     }
     if n == 1 {
-        return Csid::Incomplete;
+        return None;
     }
-    Csid::Id(n)
+    Some(n)
 }
 
-fn three(a: u32, b: u32, c: u32) -> Csid
+fn three(a: u32, b: u32, c: u32) -> Option<u32>
     requires { (b ≤ 255) × (c ≤ 255) }
     ensures { result ≡ csid (a ∷ b ∷ c ∷ []) }
 {
     let n = a % 64;
     if n == 0 {
         let id = b + 64;
-        return Csid::Id(id);
+        return Some(id);
     }
     if n == 1 {
         let id = 256 * c + b + 64;
-        return Csid::Id(id);
+        return Some(id);
     }
-    Csid::Id(n)
+    Some(n)
 }
 
 // What the bytes of a basic header say with one more.
-fn get_csid(h: Held, byte: u8) -> Csid
+fn get_csid(h: Held, byte: u8) -> Option<u32>
     requires { h.stage < 3 }
     ensures { result ≡ csid (bytes_of (stage_in h) byte) }
 {
@@ -200,7 +199,7 @@ pub fn basic_byte(h: Held, rows: &[u32; TABLE_LENGTH], byte: u8) -> Done
     ensures { result ≡ done_of h (step_in (meant h rows.now) byte) }
 {
     let read = get_csid(h, byte);
-    let Csid::Id(id) = read else {
+    let Some(id) = read else {
         return keeps(h, byte);
     };
     let first = first_of(h, byte);

@@ -1,7 +1,5 @@
 -- The samples of document 01 that are marked M, in its order, Adobe's worked examples, and distances.
-use Rattle.std.specs.Prelude.{ℕ, true, false, List, [], ◌∷◌}
-use Rattle.chunk_header.specs.declared.Csid.{Csid}
-use Rattle.chunk_header.specs.declared.Csid.TheVariants.{Id, Incomplete}
+use Rattle.std.specs.Prelude.{ℕ, true, false, List, [], ◌∷◌, option_to_list}
 use Rattle.chunk_header.specs.Basic.{csid}
 use Rattle.chunk_header.specs.Worked.{audio, video}
 use Rattle.user_control.specs.declared.UserControlEvent.TheVariants.{SetBufferLength}
@@ -18,10 +16,6 @@ use Rattle.samples.specs.Worked.{mixed, meant}
 abbrev values : Answer → List ℕ
 values (event code numbers) = code ∷ numbers
 values (refused number) = number ∷ []
-
-abbrev id : Csid → List ℕ
-id (Id n) = n ∷ []
-id Incomplete = []
 
 -- M1 and what follows it: type 9, stream 1
 abbrev video9 : ℕ → List ℕ → Call
@@ -101,12 +95,12 @@ table =
     ∷ encoded (size 4096 0) [] is bytes9
     ∷ decoded bytes9 [] is (1 ∷ 0 ∷ 0 ∷ 4 ∷ 16 ∷ 0x00 ∷ 0x00 ∷ 0x10 ∷ 0x00 ∷ [])
     -- M10, and two ids that tell the second byte from the third
-    ∷ id (csid (0x00 ∷ 0x00 ∷ [])) is (64 ∷ [])
-    ∷ id (csid (0x00 ∷ 0xFF ∷ [])) is (319 ∷ [])
-    ∷ id (csid (0x01 ∷ 0x00 ∷ 0x00 ∷ [])) is (64 ∷ [])
-    ∷ id (csid (0x01 ∷ 0xFF ∷ 0xFF ∷ [])) is (65599 ∷ [])
-    ∷ id (csid (0x01 ∷ 0x00 ∷ 0x01 ∷ [])) is (320 ∷ [])
-    ∷ id (csid (0x01 ∷ 0x01 ∷ 0x00 ∷ [])) is (65 ∷ [])
+    ∷ option_to_list (csid (0x00 ∷ 0x00 ∷ [])) is (64 ∷ [])
+    ∷ option_to_list (csid (0x00 ∷ 0xFF ∷ [])) is (319 ∷ [])
+    ∷ option_to_list (csid (0x01 ∷ 0x00 ∷ 0x00 ∷ [])) is (64 ∷ [])
+    ∷ option_to_list (csid (0x01 ∷ 0xFF ∷ 0xFF ∷ [])) is (65599 ∷ [])
+    ∷ option_to_list (csid (0x01 ∷ 0x00 ∷ 0x01 ∷ [])) is (320 ∷ [])
+    ∷ option_to_list (csid (0x01 ∷ 0x01 ∷ 0x00 ∷ [])) is (65 ∷ [])
     -- M11, written and read
     ∷ body (SetBufferLength 1 500) is bytes11
     ∷ values (reading bytes11) is (3 ∷ 1 ∷ 500 ∷ [])

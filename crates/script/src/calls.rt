@@ -1,54 +1,78 @@
 // The calls that lines are.
 use in_place::TABLE_LENGTH;
 use script_bodies::{make_body, make_control, make_settings, make_time};
-use script_calls::{Made, make_dec, make_enc};
+use script_calls::{make_dec, make_enc};
 use script_lines::LONGEST_LINE;
 use script_plans::make_plan;
-use script_said::Said;
-use script_text::{place_of, word};
+use script_text::{MOST_WORDS, split_words};
 use serializer::ChunkSerializer;
+use std::fmt::Write;
 
-// The family of a line that is of none.
-const NONE: usize = 7;
+// The bytes that a line gives in hex: no line is long enough for more.
+pub const BYTES_LENGTH: usize = 131072;
 
-// The family of calls that the line is of, by its first word. A line that is too long is of none.
-fn family_of(line: &[u8]) -> usize {
-    if LONGEST_LINE < line.len() {
-        return NONE;
-    }
-    place_of(b"enc dec time control settings plan body", word(line, 0))
-}
+// The output that a call writes to: the most that a line may lend.
+pub const OUTPUT_LENGTH: usize = 131072;
 
-// Makes the call of a line that leaves encoder and decoder as they were.
-fn make_other(family: usize, line: &[u8], bytes: &mut [u8], output: &mut [u8]) -> Said {
-    match family {
-        2 => make_time(line, bytes),
-        3 => make_control(line, bytes, output),
-        4 => make_settings(line, bytes, output),
-        5 => make_plan(line, bytes, output),
-        6 => make_body(line, bytes, output),
-        _ => Said::bad(),
-    }
-}
+// The payload buffer that the decoder writes to: the most that a line may lend.
+pub const PAYLOAD_LENGTH: usize = 262144;
 
-// Makes the call that the line is.
-pub fn make(
+// The room of the decoder that is there at the start.
+const FIRST_ROOM: u32 = 65536;
+
+// What calls are made on, kept from line to line, and what they are lent.
+#[derive(Drop)]
+pub struct Calls {
     encoder: ChunkSerializer,
-    held: &mut [u32; 24],
-    rows: &mut [u32; TABLE_LENGTH],
-    line: &[u8],
-    bytes: &mut [u8],
-    output: &mut [u8],
-    payload: &mut [u8],
-) -> Made {
-    let family = family_of(line);
-    if family == 0 {
-        return make_enc(encoder, line, bytes, output);
+    // the decoder's numbers and table
+    held: [u32; 24],
+    rows: [u32; TABLE_LENGTH],
+    bytes: [u8; BYTES_LENGTH],
+    output: [u8; OUTPUT_LENGTH],
+    payload: [u8; PAYLOAD_LENGTH],
+}
+
+impl Calls {
+    // A fresh encoder and a fresh decoder.
+    pub fn new() -> Self {
+        let mut held = [0; 24];
+        let mut rows = [0; TABLE_LENGTH];
+        in_place::make(&mut held, &mut rows, FIRST_ROOM);
+        Calls {
+            encoder: ChunkSerializer::new(),
+            held,
+            rows,
+            bytes: [0; BYTES_LENGTH],
+            output: [0; OUTPUT_LENGTH],
+            payload: [0; PAYLOAD_LENGTH],
+        }
     }
-    if family == 1 {
-        let said = make_dec(held, rows, line, bytes, payload);
-        return Made { encoder, said };
+
+    // Makes the call that the line is, and puts its answer; none where it is no call, as a line that is too long.
+    pub fn make(&mut self, line: &[u8], text: &mut impl Write) -> Option<()> {
+        if LONGEST_LINE < line.len() {
+            return None;
+        }
+        let mut words = [""; MOST_WORDS];
+        let words = split_words(line, &mut words)?;
+        let bytes = &mut self.bytes;
+        let output = &mut self.output;
+        match *words.first()? {
+            "enc" => make_enc(&mut self.encoder, words, bytes, output, text),
+            "dec" => make_dec(
+                &mut self.held,
+                &mut self.rows,
+                words,
+                bytes,
+                &mut self.payload,
+                text,
+            ),
+            "time" => make_time(words, text),
+            "control" => make_control(words, bytes, output, text),
+            "settings" => make_settings(words, bytes, output, text),
+            "plan" => make_plan(words, bytes, text),
+            "body" => make_body(words, bytes, output, text),
+            _ => None,
+        }
     }
-    let said = make_other(family, line, bytes, output);
-    Made { encoder, said }
 }

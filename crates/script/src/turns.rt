@@ -1,112 +1,92 @@
-// A run, turn by turn.
-use crate::calls::make;
-use crate::{BYTES_LENGTH, INPUT_LENGTH, OUTPUT_LENGTH, PAYLOAD_LENGTH, TEXT_LENGTH};
-use in_place::TABLE_LENGTH;
-use script_lines::{State, end_answer, is_skipped, next_line, write_answers};
-use script_said::{Said, put_numbered, put_said};
-use serializer::ChunkSerializer;
+// A run, line by line.
+use crate::calls::Calls;
+use script_lines::{LONGEST_LINE, Lines, is_skipped};
+use script_said::Text;
+use std::fmt::Write;
 use std::io;
-use test_parts::part;
 
-// What is kept from turn to turn: how far the run is, and the encoder beside it.
-#[derive(Clone, Copy)]
-struct Kept {
-    state: State,
-    encoder: ChunkSerializer,
+// Answers that wait to be written: up to 65536 bytes, and behind them one answer with a payload of
+// 262144 bytes in hex.
+pub const TEXT_LENGTH: usize = 655360;
+
+// So many bytes of answers do not wait any longer.
+const LONGEST_WAIT: usize = 65536;
+
+// What is kept from line to line.
+#[derive(Drop)]
+struct Turns {
+    calls: Calls,
+    answers: Text<TEXT_LENGTH>,
+    // how many lines were taken
+    taken: u64,
 }
 
-impl Kept {
-    // Before the first turn.
+impl Turns {
+    // Before the first line.
     fn new() -> Self {
-        Kept {
-            state: State::new(),
-            encoder: ChunkSerializer::new(),
+        Turns {
+            calls: Calls::new(),
+            answers: Text::new(),
+            taken: 0,
         }
     }
-}
 
-// Answers the line that was taken last. After `bad line N` the run is over.
-fn answer(
-    rt: &impl Print,
-    state: State,
-    text: &mut [u8],
-    said: Said,
-    output: &[u8],
-    payload: &[u8],
-) -> io::Result<State> {
-    if said.is_bad {
-        let filled = put_numbered(text, state.waiting, b"bad line ", state.lines);
-        let answered = end_answer(rt, state, text, filled)?;
-        return Ok(answered.stop());
-    }
-    let filled = put_said(text, state.waiting, said, output, payload);
-    end_answer(rt, state, text, filled)
-}
-
-// Makes the call of the line that was taken last, and answers it.
-fn answer_line(
-    rt: &impl Print,
-    kept: Kept,
-    line: &[u8],
-    held: &mut [u32; 24],
-    rows: &mut [u32; TABLE_LENGTH],
-    text: &mut [u8],
-    bytes: &mut [u8],
-    output: &mut [u8],
-    payload: &mut [u8],
-) -> io::Result<Kept> {
-    let before = kept.encoder;
-    let made = make(before, held, rows, line, bytes, output, payload);
-    let said = made.said;
-    let encoder = made.encoder;
-    let state = answer(rt, kept.state, text, said, output, payload)?;
-    Ok(Kept { state, encoder })
-}
-
-// Takes a line, which is empty where more had to be read, and answers it where it is not skipped.
-fn turn(
-    rt: &(impl Input + Print),
-    kept: Kept,
-    held: &mut [u32; 24],
-    rows: &mut [u32; TABLE_LENGTH],
-    input: &mut [u8; INPUT_LENGTH],
-    text: &mut [u8; TEXT_LENGTH],
-    bytes: &mut [u8; BYTES_LENGTH],
-    output: &mut [u8; OUTPUT_LENGTH],
-    payload: &mut [u8; PAYLOAD_LENGTH],
-) -> io::Result<Kept> {
-    let before = kept.state;
-    let encoder = kept.encoder;
-    let state = next_line(rt, before, input, text)?;
-    let line = part(input, state.from, state.to);
-    let taken = Kept { state, encoder };
-    if is_skipped(line) {
-        return Ok(taken);
-    }
-    answer_line(rt, taken, line, held, rows, text, bytes, output, payload)
-}
-
-// Runs the whole script. The turns are counted down from a number that no run uses up.
-pub fn run_all(
-    rt: &(impl Input + Print),
-    held: &mut [u32; 24],
-    rows: &mut [u32; TABLE_LENGTH],
-    input: &mut [u8; INPUT_LENGTH],
-    text: &mut [u8; TEXT_LENGTH],
-    bytes: &mut [u8; BYTES_LENGTH],
-    output: &mut [u8; OUTPUT_LENGTH],
-    payload: &mut [u8; PAYLOAD_LENGTH],
-) -> io::Result<()> {
-    let mut kept = Kept::new();
-    let mut turns = u64::MAX;
-    while 0 < turns {
-        kept = turn(rt, kept, held, rows, input, text, bytes, output, payload)?;
-        let state = kept.state;
-        if state.over {
-            write_answers(rt, state, text)?;
-            return Ok(());
+    // Answers a line that is not skipped, and says whether the run goes on: after a bad line it is over.
+    fn answer(&mut self, line: &[u8]) -> bool {
+        self.taken = self.taken.wrapping_add(1);
+        if is_skipped(line) {
+            return true;
         }
-        turns -= 1;
+        let is_call = self.calls.make(line, &mut self.answers).is_some();
+        if !is_call {
+            let _ = write!(self.answers, "bad line {}", self.taken);
+        }
+        let _ = self.answers.write_str("\n");
+        is_call
+    }
+
+    // Writes the answers that wait.
+    fn write_answers(&mut self, rt: &impl Print) -> io::Result<()> {
+        rt.write_all(self.answers.as_bytes())?;
+        self.answers.clear();
+        Ok(())
+    }
+
+    // Answers the lines that were read to their end, and one with no end yet that is too long already. Says whether the run goes on.
+    fn answer_read(&mut self, rt: &impl Print, read: &[u8]) -> io::Result<bool> {
+        for piece in read.split_inclusive(|byte| *byte == b'\n') {
+            let goes_on = match piece {
+                [line @ .., b'\n'] => self.answer(line),
+                _ if LONGEST_LINE < piece.len() => self.answer(piece),
+                _ => true,
+            };
+            if !goes_on {
+                return Ok(false);
+            }
+            if LONGEST_WAIT <= self.answers.as_bytes().len() {
+                self.write_answers(rt)?;
+            }
+        }
+        Ok(true)
+    }
+}
+
+// Runs the script on standard input to its end, or to its first bad line. Answers are written before anything is read. The turns
+// are counted up to a number that no run reaches.
+pub fn run(rt: &(impl Input + Print)) -> io::Result<()> {
+    let mut lines = Lines::new();
+    let mut turns = Turns::new();
+    for _ in 0..u64::MAX {
+        let goes_on = turns.answer_read(rt, lines.read())?;
+        turns.write_answers(rt)?;
+        if !goes_on {
+            break;
+        }
+        if !lines.read_more(rt)? {
+            turns.answer(lines.read());
+            turns.write_answers(rt)?;
+            break;
+        }
     }
     Ok(())
 }

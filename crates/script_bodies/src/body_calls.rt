@@ -1,121 +1,92 @@
 // The calls of protocol control bodies.
 use protocol_control::{Deserialized, Kind, ProtocolControl, Serialized};
-use script_said::Said;
-use script_text::{Call, read_call, word};
-use test_parts::part;
+use script_said::{put_refused, put_written};
+use script_text::{read_hex, read_number};
+use std::fmt;
+use std::fmt::Write;
 
-// The place of the body's name among the names.
-fn name_place(control: ProtocolControl) -> usize {
+// Puts a body: its name and its numbers.
+fn put_control(text: &mut impl Write, control: ProtocolControl) -> fmt::Result {
     match control {
-        ProtocolControl::SetChunkSize { size: _ } => 0,
-        ProtocolControl::Abort { stream_id: _ } => 1,
-        ProtocolControl::Acknowledgement { sequence_number: _ } => 2,
-        ProtocolControl::WindowAcknowledgement { size: _ } => 3,
-        _ => 4,
+        ProtocolControl::SetChunkSize { size } => write!(text, "size {size}"),
+        ProtocolControl::Abort { stream_id } => write!(text, "abort {stream_id}"),
+        ProtocolControl::Acknowledgement { sequence_number } => {
+            write!(text, "ack {sequence_number}")
+        }
+        ProtocolControl::WindowAcknowledgement { size } => write!(text, "window {size}"),
+        ProtocolControl::SetPeerBandwidth { size, limit_type } => {
+            write!(text, "bandwidth {size} {limit_type}")
+        }
     }
 }
 
-// The body's first number.
-fn first_number(control: ProtocolControl) -> u32 {
-    match control {
-        ProtocolControl::SetChunkSize { size } => size,
-        ProtocolControl::Abort { stream_id } => stream_id,
-        ProtocolControl::Acknowledgement { sequence_number } => sequence_number,
-        ProtocolControl::WindowAcknowledgement { size } => size,
-        ProtocolControl::SetPeerBandwidth {
-            size,
-            limit_type: _,
-        } => size,
+// The kind of this name.
+fn kind_of(name: &str) -> Option<Kind> {
+    match name {
+        "size" => Some(Kind::SetChunkSize),
+        "abort" => Some(Kind::Abort),
+        "ack" => Some(Kind::Acknowledgement),
+        "window" => Some(Kind::WindowAcknowledgement),
+        "bandwidth" => Some(Kind::SetPeerBandwidth),
+        _ => None,
     }
 }
 
-// A body as an answer: its name and its numbers.
-fn told(control: ProtocolControl) -> Said {
-    let name = word(b"size abort ack window bandwidth", name_place(control));
-    let said = Said::new(name).number(first_number(control) as u64);
-    match control {
-        ProtocolControl::SetPeerBandwidth {
-            size: _,
-            limit_type,
-        } => said.number(limit_type as u64),
-        _ => said,
-    }
-}
-
-// Reads a body of this kind.
-fn read(kind: Kind, body: &[u8]) -> Said {
+// Makes the call `body read`.
+fn read(kind: Kind, body: &[u8], text: &mut impl Write) -> fmt::Result {
     match protocol_control::deserialize(kind, body) {
-        Deserialized::Control(control) => told(control),
-        Deserialized::BodyTooShort => Said::refused(15),
-        Deserialized::OutOfLimits => Said::refused(16),
+        Deserialized::Control(control) => put_control(text, control),
+        Deserialized::BodyTooShort => put_refused(text, 15),
+        Deserialized::OutOfLimits => put_refused(text, 16),
     }
 }
 
-// Writes the body to the first `out` bytes of the output. More than there are cannot be lent.
-fn write(control: ProtocolControl, out: u32, output: &mut [u8]) -> Said {
-    let lent = out as usize;
-    if output.len() < lent {
-        return Said::bad();
-    }
-    match protocol_control::serialize(control, &mut output[0..lent]) {
-        Serialized::Written(count) => Said::wrote(count),
-        Serialized::OutOfLimits => Said::refused(16),
-        Serialized::OutputTooShort => Said::refused(5),
+// Makes the call `body write`.
+fn write(control: ProtocolControl, output: &mut [u8], text: &mut impl Write) -> fmt::Result {
+    let written = match protocol_control::serialize(control, output) {
+        Serialized::Written(count) => Ok(count),
+        Serialized::OutOfLimits => Err(16),
+        Serialized::OutputTooShort => Err(5),
+    };
+    put_written(text, written, output)
+}
+
+// The body that the words name.
+fn read_control(words: &[&str]) -> Option<ProtocolControl> {
+    match *words {
+        ["size", n] => Some(ProtocolControl::SetChunkSize {
+            size: read_number(n)?,
+        }),
+        ["abort", n] => Some(ProtocolControl::Abort {
+            stream_id: read_number(n)?,
+        }),
+        ["ack", n] => Some(ProtocolControl::Acknowledgement {
+            sequence_number: read_number(n)?,
+        }),
+        ["window", n] => Some(ProtocolControl::WindowAcknowledgement {
+            size: read_number(n)?,
+        }),
+        ["bandwidth", n, l] => Some(ProtocolControl::SetPeerBandwidth {
+            size: read_number(n)?,
+            limit_type: read_number(l)?,
+        }),
+        _ => None,
     }
 }
 
-// The kind that the call reads.
-fn kind_of(form: usize) -> Kind {
-    match form {
-        0 => Kind::SetChunkSize,
-        1 => Kind::Abort,
-        2 => Kind::Acknowledgement,
-        3 => Kind::WindowAcknowledgement,
-        _ => Kind::SetPeerBandwidth,
+// Makes the call that the words are, and puts its answer; none where they are no call. More output than there is cannot be lent.
+pub fn make_body(
+    words: &[&str],
+    bytes: &mut [u8],
+    output: &mut [u8],
+    text: &mut impl Write,
+) -> Option<()> {
+    match words {
+        ["body", "read", name, hex] => read(kind_of(name)?, read_hex(hex, bytes)?, text).ok(),
+        ["body", "write", control @ .., out] => {
+            let lent = output.get_mut(..read_number(out)?)?;
+            write(read_control(control)?, lent, text).ok()
+        }
+        _ => None,
     }
-}
-
-// The body that the call writes.
-fn control_of(call: Call) -> ProtocolControl {
-    let form = call.form;
-    let n = call.numbers[0];
-    match form {
-        5 => ProtocolControl::SetChunkSize { size: n },
-        6 => ProtocolControl::Abort { stream_id: n },
-        7 => ProtocolControl::Acknowledgement { sequence_number: n },
-        8 => ProtocolControl::WindowAcknowledgement { size: n },
-        _ => ProtocolControl::SetPeerBandwidth {
-            size: n,
-            limit_type: call.numbers[1],
-        },
-    }
-}
-
-// The bytes of output that the call lends.
-fn lent_by(call: Call) -> u32 {
-    if call.form == 9 {
-        return call.numbers[2];
-    }
-    call.numbers[1]
-}
-
-// Reads the line as a call.
-fn read_line(line: &[u8], bytes: &mut [u8]) -> Call {
-    read_call(
-        b"body read size HEX,body read abort HEX,body read ack HEX,body read window HEX,body read bandwidth HEX,body write size N OUT,body write abort N OUT,body write ack N OUT,body write window N OUT,body write bandwidth N L OUT",
-        line,
-        bytes,
-    )
-}
-
-// Makes the call that the line is.
-pub fn make_body(line: &[u8], bytes: &mut [u8], output: &mut [u8]) -> Said {
-    let call = read_line(line, bytes);
-    if call.form < 5 {
-        return read(kind_of(call.form), part(bytes, 0, call.length));
-    }
-    if 9 < call.form {
-        return Said::bad();
-    }
-    write(control_of(call), lent_by(call), output)
 }

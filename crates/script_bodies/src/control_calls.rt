@@ -1,118 +1,89 @@
 // The calls of user control bodies.
-use script_said::Said;
-use script_text::{Call, EVENTS, read_call, word};
-use test_parts::part;
+use script_said::{put_refused, put_written};
+use script_text::{read_hex, read_number};
+use std::fmt;
+use std::fmt::Write;
 use time::RtmpTimestamp;
 use user_control::{Deserialized, Serialized, UserControlEvent};
 
-// The place of the event's name among those that have one number; 8 for the other.
-fn name_place(event: UserControlEvent) -> usize {
+// Puts an event: its name and its numbers.
+fn put_event(text: &mut impl Write, event: UserControlEvent) -> fmt::Result {
     match event {
-        UserControlEvent::StreamBegin { stream_id: _ } => 0,
-        UserControlEvent::StreamEof { stream_id: _ } => 1,
-        UserControlEvent::StreamDry { stream_id: _ } => 2,
-        UserControlEvent::StreamIsRecorded { stream_id: _ } => 3,
-        UserControlEvent::PingRequest { timestamp: _ } => 4,
-        UserControlEvent::PingResponse { timestamp: _ } => 5,
-        UserControlEvent::BufferEmpty { stream_id: _ } => 6,
-        UserControlEvent::BufferReady { stream_id: _ } => 7,
-        _ => 8,
-    }
-}
-
-// The event's first number.
-fn first_number(event: UserControlEvent) -> u32 {
-    match event {
-        UserControlEvent::StreamBegin { stream_id } => stream_id,
-        UserControlEvent::StreamEof { stream_id } => stream_id,
-        UserControlEvent::StreamDry { stream_id } => stream_id,
+        UserControlEvent::StreamBegin { stream_id } => write!(text, "begin {stream_id}"),
+        UserControlEvent::StreamEof { stream_id } => write!(text, "end {stream_id}"),
+        UserControlEvent::StreamDry { stream_id } => write!(text, "dry {stream_id}"),
         UserControlEvent::SetBufferLength {
             stream_id,
-            buffer_length: _,
-        } => stream_id,
-        UserControlEvent::StreamIsRecorded { stream_id } => stream_id,
-        UserControlEvent::PingRequest { timestamp } => timestamp.value,
-        UserControlEvent::PingResponse { timestamp } => timestamp.value,
-        UserControlEvent::BufferEmpty { stream_id } => stream_id,
-        UserControlEvent::BufferReady { stream_id } => stream_id,
-    }
-}
-
-// An event as an answer: its name and its numbers.
-fn told(event: UserControlEvent) -> Said {
-    let number = first_number(event) as u64;
-    match event {
-        UserControlEvent::SetBufferLength {
-            stream_id: _,
             buffer_length,
-        } => Said::new(b"buffer")
-            .number(number)
-            .number(buffer_length as u64),
-        _ => Said::new(word(&EVENTS, name_place(event))).number(number),
+        } => write!(text, "buffer {stream_id} {buffer_length}"),
+        UserControlEvent::StreamIsRecorded { stream_id } => write!(text, "recorded {stream_id}"),
+        UserControlEvent::PingRequest { timestamp } => write!(text, "ping {}", timestamp.value),
+        UserControlEvent::PingResponse { timestamp } => write!(text, "pong {}", timestamp.value),
+        UserControlEvent::BufferEmpty { stream_id } => write!(text, "empty {stream_id}"),
+        UserControlEvent::BufferReady { stream_id } => write!(text, "ready {stream_id}"),
     }
 }
 
-// Reads a body.
-fn read(body: &[u8]) -> Said {
+// Makes the call `control read`.
+fn read(body: &[u8], text: &mut impl Write) -> fmt::Result {
     match user_control::deserialize(body) {
-        Deserialized::Event(event) => told(event),
-        Deserialized::BodyTooShort => Said::refused(15),
-        Deserialized::UnknownCode => Said::refused(16),
+        Deserialized::Event(event) => put_event(text, event),
+        Deserialized::BodyTooShort => put_refused(text, 15),
+        Deserialized::UnknownCode => put_refused(text, 16),
     }
 }
 
-// Writes the event to the first `out` bytes of the output. More than there are cannot be lent.
-fn write(event: UserControlEvent, out: u32, output: &mut [u8]) -> Said {
-    let lent = out as usize;
-    if output.len() < lent {
-        return Said::bad();
-    }
-    match user_control::serialize(event, &mut output[0..lent]) {
-        Serialized::Written(count) => Said::wrote(count),
-        Serialized::OutputTooShort => Said::refused(5),
-    }
+// Makes the call `control write`.
+fn write(event: UserControlEvent, output: &mut [u8], text: &mut impl Write) -> fmt::Result {
+    let written = match user_control::serialize(event, output) {
+        Serialized::Written(count) => Ok(count),
+        Serialized::OutputTooShort => Err(5),
+    };
+    put_written(text, written, output)
 }
 
-// The event of the name at `place` with its number, a stream id or a timestamp.
-fn event_at(place: u32, number: u32) -> UserControlEvent {
+// The event of the name with its number, a stream id or a timestamp.
+fn event_of(name: &str, number: u32) -> Option<UserControlEvent> {
     let stream_id = number;
     let timestamp = RtmpTimestamp::new(number);
-    match place {
-        0 => UserControlEvent::StreamBegin { stream_id },
-        1 => UserControlEvent::StreamEof { stream_id },
-        2 => UserControlEvent::StreamDry { stream_id },
-        3 => UserControlEvent::StreamIsRecorded { stream_id },
-        4 => UserControlEvent::PingRequest { timestamp },
-        5 => UserControlEvent::PingResponse { timestamp },
-        6 => UserControlEvent::BufferEmpty { stream_id },
-        _ => UserControlEvent::BufferReady { stream_id },
+    match name {
+        "begin" => Some(UserControlEvent::StreamBegin { stream_id }),
+        "end" => Some(UserControlEvent::StreamEof { stream_id }),
+        "dry" => Some(UserControlEvent::StreamDry { stream_id }),
+        "recorded" => Some(UserControlEvent::StreamIsRecorded { stream_id }),
+        "ping" => Some(UserControlEvent::PingRequest { timestamp }),
+        "pong" => Some(UserControlEvent::PingResponse { timestamp }),
+        "empty" => Some(UserControlEvent::BufferEmpty { stream_id }),
+        "ready" => Some(UserControlEvent::BufferReady { stream_id }),
+        _ => None,
     }
 }
 
-// The event that the call writes.
-fn event_of(call: Call) -> UserControlEvent {
-    let form = call.form;
-    match form {
-        1 => UserControlEvent::SetBufferLength {
-            stream_id: call.numbers[0],
-            buffer_length: call.numbers[1],
-        },
-        _ => event_at(call.numbers[0], call.numbers[1]),
+// The event that the words name.
+fn read_event(words: &[&str]) -> Option<UserControlEvent> {
+    match *words {
+        ["buffer", stream_id, buffer_length] => Some(UserControlEvent::SetBufferLength {
+            stream_id: read_number(stream_id)?,
+            buffer_length: read_number(buffer_length)?,
+        }),
+        [name, number] => event_of(name, read_number(number)?),
+        _ => None,
     }
 }
 
-// Makes the call that the line is.
-pub fn make_control(line: &[u8], bytes: &mut [u8], output: &mut [u8]) -> Said {
-    let call = read_call(
-        b"control read HEX,control write buffer S L OUT,control write NAME N OUT",
-        line,
-        bytes,
-    );
-    if call.form == 0 {
-        return read(part(bytes, 0, call.length));
+// Makes the call that the words are, and puts its answer; none where they are no call. More output than there is cannot be lent.
+pub fn make_control(
+    words: &[&str],
+    bytes: &mut [u8],
+    output: &mut [u8],
+    text: &mut impl Write,
+) -> Option<()> {
+    match words {
+        ["control", "read", hex] => read(read_hex(hex, bytes)?, text).ok(),
+        ["control", "write", event @ .., out] => {
+            let lent = output.get_mut(..read_number(out)?)?;
+            write(read_event(event)?, lent, text).ok()
+        }
+        _ => None,
     }
-    if 2 < call.form {
-        return Said::bad();
-    }
-    write(event_of(call), call.numbers[2], output)
 }

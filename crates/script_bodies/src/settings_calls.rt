@@ -1,80 +1,69 @@
 // The calls of settings.
-use script_said::Said;
-use script_text::{Call, read_call};
+use script_said::{put_refused, put_written};
+use script_text::{read_hex, read_number};
 use settings::{Reading, Settings, Version, Writing};
-use test_parts::part;
+use std::fmt;
+use std::fmt::Write;
 
-// What a number says that is to be a version.
-#[derive(Clone, Copy)]
-enum Named {
-    As(Version),
-    Unnamed,
-}
-
-// The version of this number.
-fn version_of(number: u32) -> Named {
-    match number {
-        1 => Named::As(Version::One),
-        2 => Named::As(Version::Two),
-        _ => Named::Unnamed,
+// The version that the word is.
+fn read_version(word: &str) -> Option<Version> {
+    match word {
+        "1" => Some(Version::One),
+        "2" => Some(Version::Two),
+        _ => None,
     }
 }
 
-// Settings as an answer.
-fn told(settings: Settings, used: usize) -> Said {
-    let sized = Said::new(b"settings").number(settings.max_chunk_size as u64);
-    let roomed = sized.number(settings.room as u64);
-    roomed.number(settings.camera_kind as u64).used(used)
-}
-
-// Reads a record by a reader of this version.
-fn read(reader: Version, bytes: &[u8]) -> Said {
+// Makes the call `settings read` by a reader of this version.
+fn read(reader: Version, bytes: &[u8], text: &mut impl Write) -> fmt::Result {
     match settings::read(reader, bytes) {
-        Reading::Read { settings, used } => told(settings, used),
-        Reading::TooShort => Said::refused(25),
-        Reading::UnknownVersion(_) => Said::refused(26),
-        Reading::WrongLength => Said::refused(27),
-        Reading::OutOfLimits => Said::refused(28),
+        Reading::Read { settings, used } => write!(
+            text,
+            "settings {} {} {} used {used}",
+            settings.max_chunk_size, settings.room, settings.camera_kind
+        ),
+        Reading::TooShort => put_refused(text, 25),
+        Reading::UnknownVersion(_) => put_refused(text, 26),
+        Reading::WrongLength => put_refused(text, 27),
+        Reading::OutOfLimits => put_refused(text, 28),
     }
 }
 
-// Writes the settings to the first `out` bytes of the output. More than there are cannot be lent.
-fn write(version: Version, settings: Settings, out: u32, output: &mut [u8]) -> Said {
-    let lent = out as usize;
-    if output.len() < lent {
-        return Said::bad();
-    }
-    match settings::write(version, settings, &mut output[0..lent]) {
-        Writing::Written(count) => Said::wrote(count),
-        Writing::OutOfLimits => Said::refused(28),
-        Writing::OutputTooShort => Said::refused(5),
-    }
-}
-
-// The settings that the call writes.
-fn settings_of(call: Call) -> Settings {
-    Settings {
-        max_chunk_size: call.numbers[1],
-        room: call.numbers[2],
-        camera_kind: call.numbers[3],
-    }
-}
-
-// Makes the call that the line is.
-pub fn make_settings(line: &[u8], bytes: &mut [u8], output: &mut [u8]) -> Said {
-    let call = read_call(
-        b"settings read READER HEX,settings write VERSION SIZE ROOM KIND OUT",
-        line,
-        bytes,
-    );
-    let Named::As(version) = version_of(call.numbers[0]) else {
-        return Said::bad();
+// Makes the call `settings write`.
+fn write(
+    version: Version,
+    settings: Settings,
+    output: &mut [u8],
+    text: &mut impl Write,
+) -> fmt::Result {
+    let written = match settings::write(version, settings, output) {
+        Writing::Written(count) => Ok(count),
+        Writing::OutOfLimits => Err(28),
+        Writing::OutputTooShort => Err(5),
     };
-    if call.form == 0 {
-        return read(version, part(bytes, 0, call.length));
+    put_written(text, written, output)
+}
+
+// Makes the call that the words are, and puts its answer; none where they are no call. More output than there is cannot be lent.
+pub fn make_settings(
+    words: &[&str],
+    bytes: &mut [u8],
+    output: &mut [u8],
+    text: &mut impl Write,
+) -> Option<()> {
+    match *words {
+        ["settings", "read", reader, hex] => {
+            read(read_version(reader)?, read_hex(hex, bytes)?, text).ok()
+        }
+        ["settings", "write", version, size, room, kind, out] => {
+            let settings = Settings {
+                max_chunk_size: read_number(size)?,
+                room: read_number(room)?,
+                camera_kind: read_number(kind)?,
+            };
+            let lent = output.get_mut(..read_number(out)?)?;
+            write(read_version(version)?, settings, lent, text).ok()
+        }
+        _ => None,
     }
-    if call.form == 1 {
-        return write(version, settings_of(call), call.numbers[4], output);
-    }
-    Said::bad()
 }

@@ -1,33 +1,21 @@
 // The calls of the decoder, over the numbers and the table that are lent.
 use in_place::{Answer, TABLE_LENGTH, Telling};
-use script_said::Said;
-use script_text::read_call;
+use script_said::{Hex, put_refused};
+use script_text::{read_hex, read_number};
+use std::fmt;
+use std::fmt::Write;
 use test_parts::part;
 
-// Whether a room or a size was taken.
-fn told(telling: Telling) -> Said {
+// Puts whether a room or a size was taken.
+pub fn put_told(text: &mut impl Write, telling: Telling) -> fmt::Result {
     match telling {
-        Telling::Taken => Said::new(b"ok"),
-        Telling::Refused(number) => Said::refused(number),
+        Telling::Taken => text.write_str("ok"),
+        Telling::Refused(number) => put_refused(text, number),
     }
 }
 
-// A chunk size in force.
-pub fn size(size: u32) -> Said {
-    Said::new(b"size").number(size as u64)
-}
-
-// A message: its payload is the first `length` bytes of the payload buffer.
-pub fn message(type_id: u32, stream_id: u32, time: u32, length: u32, used: usize) -> Said {
-    let streamed = Said::new(b"message")
-        .number(type_id as u64)
-        .number(stream_id as u64);
-    let lengthy = streamed.number(time as u64).number(length as u64);
-    lengthy.used(used).payload(length as usize)
-}
-
-// What a feed answers.
-fn answered(answer: Answer) -> Said {
+// Puts what a feed answers. A message's payload is at the start of the payload buffer.
+pub fn put_answer(text: &mut impl Write, answer: Answer, payload: &[u8]) -> fmt::Result {
     match answer {
         Answer::Message {
             type_id,
@@ -35,48 +23,38 @@ fn answered(answer: Answer) -> Said {
             timestamp,
             length,
             used,
-        } => message(type_id, stream_id, timestamp.value, length, used),
-        Answer::More { used } => Said::new(b"more").number(used as u64),
-        Answer::Refused { number, used } => Said::refused(number).used(used),
+        } => write!(
+            text,
+            "message {type_id} {stream_id} {} {length} used {used} {}",
+            timestamp.value,
+            Hex(part(payload, 0, length as usize))
+        ),
+        Answer::More { used } => write!(text, "more {used}"),
+        Answer::Refused { number, used } => write!(text, "refused {number} used {used}"),
     }
 }
 
-// Makes the call `dec feed` with the first `buffer` bytes of the payload buffer. More than there are
-// cannot be lent.
-fn feed(
-    held: &mut [u32; 24],
-    rows: &mut [u32; TABLE_LENGTH],
-    piece: &[u8],
-    buffer: u32,
-    payload: &mut [u8],
-) -> Said {
-    let lent = buffer as usize;
-    if payload.len() < lent {
-        return Said::bad();
-    }
-    answered(in_place::next_message(held, rows, piece, &mut payload[0..lent]))
-}
-
-// Makes the call that the line is.
+// Makes the call that the words are, and puts its answer; none where they are no call. More payload buffer than there is cannot be
+// lent.
 pub fn make_dec(
     held: &mut [u32; 24],
     rows: &mut [u32; TABLE_LENGTH],
-    line: &[u8],
+    words: &[&str],
     bytes: &mut [u8],
     payload: &mut [u8],
-) -> Said {
-    let call = read_call(
-        b"dec new ROOM,dec feed BUFFER HEX,dec size SIZE,dec size?",
-        line,
-        bytes,
-    );
-    let number = call.numbers[0];
-    let form = call.form;
-    match form {
-        0 => told(in_place::make(held, rows, number)),
-        1 => feed(held, rows, part(bytes, 0, call.length), number, payload),
-        2 => told(in_place::set_max_chunk_size(held, number)),
-        3 => size(in_place::get_max_chunk_size(held)),
-        _ => Said::bad(),
+    text: &mut impl Write,
+) -> Option<()> {
+    match *words {
+        ["dec", "new", room] => put_told(text, in_place::make(held, rows, read_number(room)?)).ok(),
+        ["dec", "feed", buffer, hex] => {
+            let lent = payload.get_mut(..read_number(buffer)?)?;
+            let answer = in_place::next_message(held, rows, read_hex(hex, bytes)?, lent);
+            put_answer(text, answer, lent).ok()
+        }
+        ["dec", "size", size] => {
+            put_told(text, in_place::set_max_chunk_size(held, read_number(size)?)).ok()
+        }
+        ["dec", "size?"] => write!(text, "size {}", in_place::get_max_chunk_size(held)).ok(),
+        _ => None,
     }
 }

@@ -1,18 +1,10 @@
 // The calls of the encoder.
-use crate::dec_calls::size;
-use script_said::Said;
-use script_text::{Call, read_call};
-use serializer::{ChunkSerializer, Packet, Serialized};
-use test_calls::refusal_of;
-use test_parts::part;
+use script_said::{put_refused, put_written};
+use script_text::{read_flag, read_hex, read_number};
+use serializer::{ChunkSerializer, PacketError, Serialized};
+use std::fmt;
+use std::fmt::Write;
 use time::RtmpTimestamp;
-
-// What becomes of a call, and the encoder after it.
-#[derive(Clone, Copy)]
-pub struct Made {
-    pub encoder: ChunkSerializer,
-    pub said: Said,
-}
 
 // A message, its payload aside.
 #[derive(Clone, Copy)]
@@ -24,134 +16,112 @@ struct Message {
     is_droppable: bool,
 }
 
-// An answer that leaves the encoder as it was.
-fn beside(encoder: ChunkSerializer, said: Said) -> Made {
-    Made { encoder, said }
+// The message that the words say, its payload aside.
+fn read_message(words: &[&str]) -> Option<Message> {
+    let [type_id, stream_id, time, is_forced, is_droppable] = *words else {
+        return None;
+    };
+    Some(Message {
+        type_id: read_number(type_id)?,
+        stream_id: read_number(stream_id)?,
+        time: RtmpTimestamp::new(read_number(time)?),
+        is_forced: read_flag(is_forced)?,
+        is_droppable: read_flag(is_droppable)?,
+    })
 }
 
-// What a packet says.
-fn told(packet: Packet) -> Said {
-    match packet {
-        Packet::Written(count) => Said::wrote(count),
-        _ => Said::refused(refusal_of(packet) as u32),
-    }
-}
-
-// What a packet would say of its length.
-fn measured(packet: Packet) -> Said {
-    match packet {
-        Packet::Written(count) => Said::new(b"length").number(count as u64),
-        _ => told(packet),
-    }
-}
-
-// After a call. The encoder that it handed back is in place of the last, after a refusal too.
-fn after(serialized: Serialized) -> Made {
-    let encoder = serialized.serializer;
-    let packet = serialized.packet;
-    Made {
-        encoder,
-        said: told(packet),
-    }
-}
-
-// Whether a call can be made of `enc msg` or `enc length`: the type is a byte, and the flags are 0 or 1.
-fn is_message(call: Call) -> bool {
-    call.numbers[0] < 256 && call.numbers[3] < 2 && call.numbers[4] < 2
-}
-
-// The message of such a call, its payload aside.
-fn message_of(call: Call) -> Message {
-    Message {
-        type_id: (call.numbers[0] % 256) as u8,
-        stream_id: call.numbers[1],
-        time: RtmpTimestamp::new(call.numbers[2]),
-        is_forced: call.numbers[3] == 1,
-        is_droppable: call.numbers[4] == 1,
-    }
+// Puts what a call wrote. The encoder that it handed back is in place of the last, after a refusal too.
+fn put_packet(
+    encoder: &mut ChunkSerializer,
+    serialized: Serialized,
+    output: &[u8],
+    text: &mut impl Write,
+) -> fmt::Result {
+    *encoder = serialized.serializer;
+    put_written(text, serialized.packet.map_err(PacketError::number), output)
 }
 
 // Makes the call `enc msg`.
-fn send(encoder: ChunkSerializer, call: Call, payload: &[u8], output: &mut [u8]) -> Made {
-    if !is_message(call) {
-        return beside(encoder, Said::bad());
-    }
-    let m = message_of(call);
-    after(encoder.serialize(
-        m.type_id,
-        m.stream_id,
-        m.time,
+fn send(
+    encoder: &mut ChunkSerializer,
+    message: Message,
+    payload: &[u8],
+    output: &mut [u8],
+    text: &mut impl Write,
+) -> fmt::Result {
+    let serialized = encoder.serialize(
+        message.type_id,
+        message.stream_id,
+        message.time,
         payload,
-        m.is_forced,
-        m.is_droppable,
+        message.is_forced,
+        message.is_droppable,
         output,
-    ))
+    );
+    put_packet(encoder, serialized, output, text)
 }
 
 // Makes the call `enc length`.
-fn measure(encoder: ChunkSerializer, call: Call, payload: &[u8]) -> Said {
-    if !is_message(call) {
-        return Said::bad();
-    }
-    let m = message_of(call);
-    measured(encoder.packet_length(
-        m.type_id,
-        m.stream_id,
-        m.time,
-        payload,
-        m.is_forced,
-        m.is_droppable,
-    ))
-}
-
-// Makes the call `enc size`.
-fn change_size(encoder: ChunkSerializer, call: Call, output: &mut [u8]) -> Made {
-    let time = RtmpTimestamp::new(call.numbers[1]);
-    after(encoder.set_max_chunk_size(call.numbers[0], time, output))
-}
-
-// The bytes of output that the call lends.
-fn lent_by(call: Call) -> usize {
-    let form = call.form;
-    match form {
-        1 => call.numbers[5] as usize,
-        2 => call.numbers[2] as usize,
-        _ => 0,
-    }
-}
-
-// Makes the call with this output.
-fn make_lent(encoder: ChunkSerializer, call: Call, bytes: &[u8], output: &mut [u8]) -> Made {
-    let form = call.form;
-    match form {
-        0 => Made {
-            encoder: ChunkSerializer::new(),
-            said: Said::new(b"ok"),
-        },
-        1 => send(encoder, call, part(bytes, 0, call.length), output),
-        2 => change_size(encoder, call, output),
-        3 => beside(encoder, measure(encoder, call, part(bytes, 0, call.length))),
-        4 => beside(encoder, size(encoder.get_max_chunk_size())),
-        _ => beside(encoder, Said::bad()),
-    }
-}
-
-// Makes the call that the line is with the first OUT bytes of the output. More than there are cannot
-// be lent.
-pub fn make_enc(
+fn measure(
     encoder: ChunkSerializer,
-    line: &[u8],
+    message: Message,
+    payload: &[u8],
+    text: &mut impl Write,
+) -> fmt::Result {
+    let length = encoder.packet_length(
+        message.type_id,
+        message.stream_id,
+        message.time,
+        payload,
+        message.is_forced,
+        message.is_droppable,
+    );
+    match length {
+        Ok(count) => write!(text, "length {count}"),
+        Err(error) => put_refused(text, error.number()),
+    }
+}
+
+// Makes the call that the words are, and puts its answer; none where they are no call. More output than there is cannot be lent.
+pub fn make_enc(
+    encoder: &mut ChunkSerializer,
+    words: &[&str],
     bytes: &mut [u8],
     output: &mut [u8],
-) -> Made {
-    let call = read_call(
-        b"enc new,enc msg TYPE STREAM TIME FORCED DROPPABLE OUT HEX,enc size SIZE TIME OUT,enc length TYPE STREAM TIME FORCED DROPPABLE HEX,enc size?",
-        line,
-        bytes,
-    );
-    let lent = lent_by(call);
-    if output.len() < lent {
-        return beside(encoder, Said::bad());
+    text: &mut impl Write,
+) -> Option<()> {
+    match words {
+        ["enc", "new"] => {
+            *encoder = ChunkSerializer::new();
+            text.write_str("ok").ok()
+        }
+        ["enc", "msg", message @ .., out, hex] => {
+            let lent = output.get_mut(..read_number(out)?)?;
+            send(
+                encoder,
+                read_message(message)?,
+                read_hex(hex, bytes)?,
+                lent,
+                text,
+            )
+            .ok()
+        }
+        ["enc", "length", message @ .., hex] => {
+            measure(
+                *encoder,
+                read_message(message)?,
+                read_hex(hex, bytes)?,
+                text,
+            )
+            .ok()
+        }
+        ["enc", "size", size, time, out] => {
+            let time = RtmpTimestamp::new(read_number(time)?);
+            let lent = output.get_mut(..read_number(out)?)?;
+            let serialized = encoder.set_max_chunk_size(read_number(size)?, time, lent);
+            put_packet(encoder, serialized, lent, text).ok()
+        }
+        ["enc", "size?"] => write!(text, "size {}", encoder.get_max_chunk_size()).ok(),
+        _ => None,
     }
-    make_lent(encoder, call, bytes, &mut output[0..lent])
 }

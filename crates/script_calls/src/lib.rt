@@ -5,5 +5,5 @@
 mod dec_calls;
 mod enc_calls;
 
-pub use crate::dec_calls::{make_dec, message, size};
-pub use crate::enc_calls::{Made, make_enc};
+pub use crate::dec_calls::{make_dec, put_answer, put_told};
+pub use crate::enc_calls::make_enc;

@@ -1,12 +1,6 @@
-// Lines of standard input, and answers on standard output: how far a run is. A test tool: it is proved safe and ending, and
-// promises nothing further.
+// Lines of standard input, in a buffer of fixed length. A test tool: it is proved safe and ending, and promises little further.
 #![tactic(auto)]
 
-mod input;
 mod lines;
-mod output;
-mod state;
 
-pub use crate::lines::{LONGEST_LINE, is_skipped, next_line};
-pub use crate::output::{end_answer, write_answers};
-pub use crate::state::State;
+pub use crate::lines::{INPUT_LENGTH, LONGEST_LINE, Lines, is_skipped};

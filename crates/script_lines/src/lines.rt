@@ -1,51 +1,67 @@
-// Lines of standard input.
-use crate::input::read_more;
-use crate::output::write_answers;
-use crate::state::State;
-use script_text::find;
+// Lines of standard input, in a buffer of fixed length.
+ghost use Rattle.script_lines.specs.declared.lines.TheConstants.{INPUT_LENGTH};
+ghost use Rattle.std.specs.Prelude.{◌≡◌, ℕ, ◌≤◌, List, [], take};
+
 use std::io;
-use test_parts::part;
+use std::io::Read;
+use std::marker::Model;
 
 // The longest line, its end not counted.
 pub const LONGEST_LINE: usize = 262144;
 
+// What is read: the unfinished line that is kept, and at least as much more.
+pub const INPUT_LENGTH: usize = 524288;
+
 // Whether the line is empty or a comment, and not too long.
 pub fn is_skipped(line: &[u8]) -> bool {
-    if line.len() == 0 {
-        return true;
+    match line {
+        [] => true,
+        [first, ..] => *first == b'#' && line.len() <= LONGEST_LINE,
     }
-    line[0] == b'#' && line.len() <= LONGEST_LINE
 }
 
-// Reads more behind the `count` bytes of an unfinished line. Where nothing comes they are the last
-// line, with which the run is over; where it is empty it is skipped as any other.
-fn read_on(rt: &impl Input, state: State, count: usize, input: &mut [u8]) -> io::Result<State> {
-    let more = read_more(rt, state, input)?;
-    if more.end != count {
-        return Ok(more);
-    }
-    Ok(more.take_line(0, count, count).stop())
+// Lines, as they come.
+#[derive(Drop)]
+pub struct Lines {
+    bytes: [u8; INPUT_LENGTH],
+    filled: usize,
 }
 
-// Takes a line, or reads more where there is no whole line. Answers are written before anything is
-// read. A line that is too long already is taken without its end.
-pub fn next_line(
-    rt: &(impl Input + Print),
-    state: State,
-    input: &mut [u8],
-    text: &[u8],
-) -> io::Result<State> {
-    let start = state.start;
-    let end = state.end;
-    let read = part(input, 0, end);
-    let line_end = find(read, start, b'\n');
-    if line_end < read.len() {
-        return Ok(state.take_line(start, line_end, line_end + 1));
+// Clauses see what was read and is kept.
+impl Model for Lines {
+    ghost Value = { List ℕ };
+
+    ghost view = { λ l. take l.filled l.bytes };
+
+    ghost invariant = { λ l. l.filled ≤ INPUT_LENGTH };
+}
+
+impl Lines {
+    // Before anything is read.
+    pub fn new() -> Self
+        ensures { result ≡ [] }
+    {
+        Lines {
+            bytes: [0; INPUT_LENGTH],
+            filled: 0,
+        }
     }
-    let count = part(read, start, end).len();
-    if LONGEST_LINE < count {
-        return Ok(state.take_line(start, end, end));
+
+    // What was read: whole lines, and behind the end of the last the beginning of one.
+    pub fn read(&self) -> &[u8]
+        ensures { result.now ≡ self.now }
+    {
+        &self.bytes[..self.filled]
     }
-    let written = write_answers(rt, state, text)?;
-    read_on(rt, written, count, input)
+
+    // Lets the whole lines go, reads more behind what begins a line, once, and answers whether anything came.
+    pub fn read_more(&mut self, rt: &impl Input) -> io::Result<bool> {
+        let last_end = self.read().iter().rposition(|byte| *byte == b'\n');
+        let start = last_end.map_or(0, |end| end + 1);
+        self.bytes.copy_within(start..self.filled, 0);
+        self.filled -= start;
+        let count = rt.reader().read(&mut self.bytes[self.filled..])?;
+        self.filled += count;
+        Ok(count != 0)
+    }
 }

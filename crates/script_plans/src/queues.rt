@@ -33,12 +33,9 @@ impl Queue {
         Some(queue)
     }
 
-    pub fn lengths(&self) -> &[u32] {
-        self.lengths.as_slice()
-    }
-
-    pub fn droppable(&self) -> &[bool] {
-        self.droppable.as_slice()
+    // The lengths and the marks.
+    pub fn slices(&self) -> (&[u32], &[bool]) {
+        (self.lengths.as_slice(), self.droppable.as_slice())
     }
 }
 
@@ -63,11 +60,4 @@ pub fn read_places(bytes: &[u8]) -> Option<Buffer<u32, MOST_PLACES>> {
         places.push(u32::from_be_bytes([*a, *b, *c, *d]))?;
     }
     Some(places)
-}
-
-// Writes the places to the output, four bytes a place.
-pub fn write_places(places: &[u32], output: &mut [u8]) {
-    for (place, bytes) in places.iter().zip(output.chunks_exact_mut(4)) {
-        bytes.copy_from_slice(&place.to_be_bytes());
-    }
 }

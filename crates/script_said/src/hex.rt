@@ -1,26 +1,19 @@
 // Bytes as hex digits.
-use crate::text::put;
+use std::fmt;
+use std::fmt::Write;
 
-// The digit of a byte's last four bits.
-fn last_digit(byte: u8) -> u8 {
-    let value = byte % 16;
-    if value < 10 {
-        return b'0' + value;
-    }
-    b'a' + (value - 10)
-}
+// Bytes whose text is two digits a byte, and a dash for none.
+#[derive(Clone, Copy)]
+pub struct Hex<'a>(pub &'a [u8]);
 
-// Puts the bytes in hex behind the text, a dash for none.
-pub fn put_hex(text: &mut [u8], filled: usize, bytes: &[u8]) -> usize {
-    if bytes.len() == 0 {
-        return put(text, filled, b'-');
+impl fmt::Display for Hex<'_> {
+    fn fmt<W: Write>(&self, f: &mut fmt::Formatter<W>) -> fmt::Result {
+        if self.0.is_empty() {
+            return f.write_str("-");
+        }
+        for byte in self.0 {
+            write!(f, "{byte:02x}")?;
+        }
+        Ok(())
     }
-    let mut end = filled;
-    let mut i = 0;
-    while i < bytes.len() {
-        end = put(text, end, last_digit(bytes[i] / 16));
-        end = put(text, end, last_digit(bytes[i]));
-        i += 1;
-    }
-    end
 }

@@ -1,11 +1,11 @@
-// What lines answer: a word, numbers and bytes, and the text of that. It knows no codec. A test tool: it is proved safe and
-// ending, and promises nothing further.
+// What lines answer: text that waits to be written, bytes in hex, and what a call that writes bytes answers. It knows no codec. A
+// test tool: it is proved safe and ending, and promises little further.
 #![tactic(auto)]
 
 mod hex;
-mod said;
-mod signed;
 mod text;
+mod written;
 
-pub use crate::said::{Said, put_said};
-pub use crate::text::{put, put_numbered};
+pub use crate::hex::Hex;
+pub use crate::text::Text;
+pub use crate::written::{put_refused, put_written};

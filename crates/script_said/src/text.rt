@@ -1,35 +1,59 @@
-// The text of answers: bytes put one after the other into a buffer. Each function takes how long
-// the text is and answers how long it is then. What the buffer has no room for is left out.
-use itoa::Buffer;
+// The text of answers, in a buffer of fixed length.
+ghost use Rattle.std.specs.Prelude.{◌≡◌, ℕ, ◌≤◌, List, [], take};
 
-// Puts one byte behind the text.
-pub fn put(text: &mut [u8], filled: usize, byte: u8) -> usize {
-    if filled < text.len() {
-        text[filled] = byte;
-        return filled + 1;
+use std::fmt;
+use std::fmt::Write;
+use std::marker::Model;
+
+// Text of at most N bytes. What it has no room for is left out.
+#[derive(Drop)]
+pub struct Text<const N: usize> {
+    bytes: [u8; N],
+    filled: usize,
+}
+
+// Clauses see the text.
+impl<const N: usize> Model for Text<N> {
+    ghost Value = { List ℕ };
+
+    ghost view = { λ t. take t.filled t.bytes };
+
+    ghost invariant = { λ t. t.filled ≤ N };
+}
+
+impl<const N: usize> Text<N> {
+    // No text yet.
+    pub fn new() -> Self
+        ensures { result ≡ [] }
+    {
+        Text {
+            bytes: [0; N],
+            filled: 0,
+        }
     }
-    filled
-}
 
-// Puts words behind the text.
-pub fn put_words(text: &mut [u8], filled: usize, words: &[u8]) -> usize {
-    let mut end = filled;
-    let mut i = 0;
-    while i < words.len() {
-        end = put(text, end, words[i]);
-        i += 1;
+    // The text so far.
+    pub fn as_bytes(&self) -> &[u8]
+        ensures { result.now ≡ self.now }
+    {
+        &self.bytes[..self.filled]
     }
-    end
+
+    // Begins anew.
+    pub fn clear(&mut self)
+        ensures { self.new ≡ [] }
+    {
+        self.filled = 0;
+    }
 }
 
-// Puts a number in decimal behind the text.
-pub fn put_number(text: &mut [u8], filled: usize, number: u64) -> usize {
-    let mut digits = Buffer::new();
-    put_words(text, filled, digits.format(number).as_bytes())
-}
-
-// Puts words and a number after them behind the text.
-pub fn put_numbered(text: &mut [u8], filled: usize, words: &[u8], number: u64) -> usize {
-    let end = put_words(text, filled, words);
-    put_number(text, end, number)
+impl<const N: usize> Write for Text<N> {
+    fn write_str(&mut self, s: &str) -> fmt::Result {
+        let words = s.as_bytes();
+        let room = &mut self.bytes[..][self.filled..];
+        let count = words.len().min(room.len());
+        room[..count].copy_from_slice(&words[..count]);
+        self.filled += count;
+        Ok(())
+    }
 }

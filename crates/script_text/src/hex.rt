@@ -1,47 +1,38 @@
 // Bytes as hex digits.
-use crate::numbers::digit_value;
-use check::same;
+ghost use Rattle.std.specs.Prelude.{◌≤◌, IfSome, length};
 
-// What a word says that is to be bytes in hex.
-#[derive(Clone, Copy)]
-pub enum Hex {
-    // how many bytes
-    Bytes(usize),
-    Bad,
+// The value of a digit, a letter of either case.
+fn digit_value(byte: u8) -> Option<u8> {
+    match byte {
+        b'0'..=b'9' => Some(byte - b'0'),
+        b'A'..=b'F' => Some(byte - b'A' + 10),
+        b'a'..=b'f' => Some(byte - b'a' + 10),
+        _ => None,
+    }
 }
 
-// Puts the bytes that the digits say at the start of `bytes`, two digits a byte.
-fn read_digits(digits: &[u8], bytes: &mut [u8]) -> Hex {
-    let count = digits.len() / 2;
-    if bytes.len() < count {
-        return Hex::Bad;
-    }
-    let mut i = 0;
-    while i < count {
-        let high = digit_value(digits[2 * i]);
-        let low = digit_value(digits[2 * i + 1]);
-        if 15 < high {
-            return Hex::Bad;
-        }
-        if 15 < low {
-            return Hex::Bad;
-        }
-        bytes[i] = 16 * high + low;
-        i += 1;
-    }
-    Hex::Bytes(count)
+// The byte that two digits say.
+fn read_byte(pair: &[u8]) -> Option<u8> {
+    let [high, low] = *pair else {
+        return None;
+    };
+    Some(digit_value(high)? << 4 | digit_value(low)?)
 }
 
-// Puts the bytes that the word says at the start of `bytes`: none for a dash.
-pub fn read_hex(word: &[u8], bytes: &mut [u8]) -> Hex {
-    if same(word, b"-") {
-        return Hex::Bytes(0);
+// The bytes that the word says, put at the start of `bytes`: none for a dash.
+pub fn read_hex<'a>(word: &str, bytes: &'a mut [u8]) -> Option<&'a [u8]>
+    ensures { IfSome result (λ said. length said.now ≤ length bytes.entry.now) }
+{
+    if word == "-" {
+        return Some(&[]);
     }
-    if word.len() == 0 {
-        return Hex::Bad;
+    let digits = word.as_bytes();
+    if digits.is_empty() || digits.len() % 2 == 1 {
+        return None;
     }
-    if word.len() % 2 == 1 {
-        return Hex::Bad;
+    let said = bytes.get_mut(..digits.len() / 2)?;
+    for (byte, pair) in said.iter_mut().zip(digits.chunks_exact(2)) {
+        *byte = read_byte(pair)?;
     }
-    read_digits(word, bytes)
+    Some(said)
 }

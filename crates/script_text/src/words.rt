@@ -1,45 +1,22 @@
 // Words: what stands between spaces. Two neighbouring spaces, and one at an end, have an empty word at their side.
-ghost use Rattle.std.specs.Prelude.{◌≤◌};
+ghost use Rattle.std.specs.Prelude.{◌≤◌, IfSome, length};
 
-use test_parts::part;
+use std::str::from_utf8;
 
-// The first place from `from` on where `byte` stands; a place past all of them where there is none.
-pub fn find(bytes: &[u8], from: usize, byte: u8) -> usize
-    ensures { from ≤ result }
+// The most words that a call has.
+pub const MOST_WORDS: usize = 9;
+
+// The line's words, put at the start of `words`. A line that is no text, or has more words than a call, is none of the calls.
+pub fn split_words<'a, 'b>(
+    line: &'a [u8],
+    words: &'b mut [&'a str; MOST_WORDS],
+) -> Option<&'b [&'a str]>
+    ensures { IfSome result (λ found. length found.now ≤ 9) }
 {
-    let mut at = from;
-    while at < bytes.len() {
-        if bytes[at] == byte {
-            return at;
-        }
-        at += 1;
+    let mut count = 0;
+    for word in from_utf8(line).ok()?.split(' ') {
+        *words.get_mut(count)? = word;
+        count += 1;
     }
-    at
-}
-
-// How many words the line has: one more than spaces.
-pub fn word_count(line: &[u8]) -> usize {
-    let mut spaces = 0;
-    let mut at = find(line, 0, b' ');
-    while at < line.len() {
-        spaces += 1;
-        at = find(line, at + 1, b' ');
-    }
-    spaces + 1
-}
-
-// The line's word at `place`, counted from 0; empty where there are fewer words.
-pub fn word<'a>(line: &'a [u8], place: usize) -> &'a [u8] {
-    let mut start = 0;
-    let mut passed = 0;
-    while passed < place {
-        let space = find(line, start, b' ');
-        if line.len() <= space {
-            return &line[..0];
-        }
-        start = space + 1;
-        passed += 1;
-    }
-    let end = find(line, start, b' ');
-    part(line, start, end)
+    words.get(..count)
 }

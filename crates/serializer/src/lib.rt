@@ -8,11 +8,13 @@ ghost use Rattle.serializer.specs.Remembered.{fresh, planned, previous};
 ghost use Rattle.serializer.specs.Serialize.{needed, outcome_of, sent, serialized, size_changed};
 ghost use Rattle.chunk_header.specs.Limits.{max_length};
 
+mod error;
 mod format;
 mod length;
 mod plan;
 mod write;
 
+pub use crate::error::PacketError;
 use crate::format::{Message, row_of};
 use crate::plan::{Plan, bytes_needed, plan_packet};
 use crate::write::write_packet;
@@ -31,28 +33,12 @@ pub struct ChunkSerializer {
     unused: u32,
 }
 
-// What became of a message.
-#[derive(Clone, Copy)]
-pub enum Packet {
-    // so many bytes, the output's first
-    Written(usize),
-    // refusal 1
-    NoPayload,
-    // refusal 2
-    MessageTooLong,
-    // refusal 3
-    ChunkSizeZero,
-    // refusal 4
-    InvalidMaxChunkSize,
-    // refusal 5
-    OutputTooShort,
-}
-
-// A packet, and the encoder handed back beside it.
+// How many bytes the packet has, the output's first; and the encoder handed back beside it.
+// Kept: a rule of the project has an encoder go in by value and come back beside its answer, after a refusal too.
 #[derive(Clone, Copy)]
 pub struct Serialized {
     pub serializer: ChunkSerializer,
-    pub packet: Packet,
+    pub packet: Result<usize, PacketError>,
 }
 
 // The message of a call.
@@ -77,12 +63,12 @@ fn message(
 }
 
 // A refusal leaves all as before.
-fn refuse(serializer: ChunkSerializer, packet: Packet) -> Serialized
-    ensures { (result.serializer ≡ serializer) × (result.packet ≡ packet) }
+fn refuse(serializer: ChunkSerializer, error: PacketError) -> Serialized
+    ensures { (result.serializer ≡ serializer) × (result.packet ≡ Err error) }
 {
     Serialized {
-        serializer: serializer,
-        packet: packet,
+        serializer,
+        packet: Err(error),
     }
 }
 
@@ -110,10 +96,7 @@ fn send(
     let plan = plan_for(serializer, message);
     let needed = bytes_needed(plan, payload);
     if output.len() < needed {
-        return Serialized {
-            serializer: serializer,
-            packet: Packet::OutputTooShort,
-        };
+        return refuse(serializer, PacketError::OutputTooShort);
     }
     let first = plan.first;
     let later = plan.later;
@@ -126,7 +109,7 @@ fn send(
     write_packet(first, later, payload, plan.size, output);
     Serialized {
         serializer: next,
-        packet: Packet::Written(needed),
+        packet: Ok(needed),
     }
 }
 
@@ -156,10 +139,10 @@ impl ChunkSerializer {
         ensures { outcome_of result output.new ≡ serialized self (Message·message type_id stream_id timestamp.value (length payload.now) force_uncompressed can_be_dropped) payload.now output.old }
     {
         if payload.len() == 0 {
-            return refuse(self, Packet::NoPayload);
+            return refuse(self, PacketError::NoPayload);
         }
         if MAX_MESSAGE_LENGTH < payload.len() {
-            return refuse(self, Packet::MessageTooLong);
+            return refuse(self, PacketError::MessageTooLong);
         }
         let message = message(
             type_id,
@@ -182,10 +165,10 @@ impl ChunkSerializer {
         ensures { outcome_of result output.new ≡ size_changed self new_size time.value output.old }
     {
         if new_size == 0 {
-            return refuse(self, Packet::ChunkSizeZero);
+            return refuse(self, PacketError::ChunkSizeZero);
         }
         if LARGEST_CHUNK_SIZE < new_size {
-            return refuse(self, Packet::InvalidMaxChunkSize);
+            return refuse(self, PacketError::InvalidMaxChunkSize);
         }
         let mut body = [0u8; 4];
         put_number(new_size, 4, &mut body, 0);
@@ -202,14 +185,14 @@ impl ChunkSerializer {
         payload: &[u8],
         force_uncompressed: bool,
         can_be_dropped: bool,
-    ) -> Packet
+    ) -> Result<usize, PacketError>
         ensures { answer_of result ≡ needed self (Message·message type_id stream_id timestamp.value (length payload.now) force_uncompressed can_be_dropped) payload.now }
     {
         if payload.len() == 0 {
-            return Packet::NoPayload;
+            return Err(PacketError::NoPayload);
         }
         if MAX_MESSAGE_LENGTH < payload.len() {
-            return Packet::MessageTooLong;
+            return Err(PacketError::MessageTooLong);
         }
         let message = message(
             type_id,
@@ -219,7 +202,7 @@ impl ChunkSerializer {
             force_uncompressed,
             can_be_dropped,
         );
-        Packet::Written(bytes_needed(plan_for(self, message), payload))
+        Ok(bytes_needed(plan_for(self, message), payload))
     }
 
     pub fn get_max_chunk_size(self) -> u32

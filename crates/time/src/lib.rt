@@ -10,39 +10,38 @@ mod distance;
 use crate::distance::distance_of;
 
 // A count of milliseconds from an unknown epoch.
-#[derive(Clone, Copy)]
+#[derive(Clone, Copy, Debug, PartialEq, Eq, Default)]
 pub struct RtmpTimestamp {
     pub value: u32,
 }
 
 // What `compare` answers: how far the other timestamp is from this one, positive where the other is later; and this one handed
 // back.
-#[derive(Clone, Copy)]
+#[derive(Clone, Copy, Debug, PartialEq, Eq)]
 pub struct Compared {
     pub distance: i64,
     pub timestamp: RtmpTimestamp,
 }
 
 impl RtmpTimestamp {
-    pub fn new(initial_value: u32) -> Self
-        ensures { result.value ≡ initial_value }
+    pub fn new(value: u32) -> Self
+        ensures { result.value ≡ value }
     {
-        RtmpTimestamp {
-            value: initial_value,
-        }
+        RtmpTimestamp { value }
     }
 
-    pub fn set(self, new_value: u32) -> Self
-        ensures { result.value ≡ new_value }
+    // Kept: `set`, `add`, `subtract` and `compare` take the timestamp by value, and no operator traits stand beside them: a project rule.
+    pub fn set(self, value: u32) -> Self
+        ensures { result.value ≡ value }
     {
-        RtmpTimestamp { value: new_value }
+        RtmpTimestamp { value }
     }
 
     pub fn add(self, other: RtmpTimestamp) -> Self
         ensures { result.value ≡ sum self.value other.value }
     {
         RtmpTimestamp {
-            value: std::num::wrapping_add_u32(self.value, other.value),
+            value: self.value.wrapping_add(other.value),
         }
     }
 
@@ -50,7 +49,7 @@ impl RtmpTimestamp {
         ensures { result.value ≡ difference self.value other.value }
     {
         RtmpTimestamp {
-            value: std::num::wrapping_sub_u32(self.value, other.value),
+            value: self.value.wrapping_sub(other.value),
         }
     }
 
@@ -58,9 +57,8 @@ impl RtmpTimestamp {
     pub fn compare(self, other: RtmpTimestamp) -> Compared
         ensures { (result.distance ≡ distance self.value other.value) × (result.timestamp ≡ self) }
     {
-        let distance = distance_of(self.value, other.value);
         Compared {
-            distance,
+            distance: distance_of(self.value, other.value),
             timestamp: self,
         }
     }

@@ -1,7 +1,4 @@
-use Prim.Native.Nat.{suc, ◌≤◌, ◌-◌, ◌%◌}
-use mathlib.Core.Path.{◌≡◌, refl}
-use native.Mathlib.Omega.{arith}
-use lib.ListN.{length, length-set}
+use Rattle.std.proofs.Common.{◌≡◌, suc, ◌-◌, ◌%◌, ◌≤◌, length, arith}
 use lib.Seq.{drop-length}
 use Rattle.fields.specs.Endian.{big_endian}
 use Rattle.fields.proofs.Endian.{digit_rest, drop_set_before}
@@ -12,7 +9,7 @@ unfolding big_endian
 loop-i-init c =
     let out = c.args.output.now in
     let e : length out - length out ≡ 0 = omega arith in
-    (omega arith, refl, rw e (omega arith), rw (e, drop-length))
+    (rw e (omega arith), rw (e, drop-length))
 
 pub loop-i-preserved : goal.loop-i-preserved
 unfolding big_endian
@@ -22,10 +19,4 @@ loop-i-preserved c =
     let i = c.loop-i.i in
     let within : i ≤ length c.loop-i.output = omega arith in
     let e : len - (i - 1) ≡ suc (len - i) = omega arith in
-    (omega arith, simp length-set c.loop-i.invariant.1, rw (e, c.loop-i.invariant.2) (digit_rest a.value (len - i)), rw (e, drop_set_before c.loop-i.output i (c.loop-i.rest % 256) (omega arith) within, c.loop-i.invariant.2, c.loop-i.invariant.3))
-
-pub returns : goal.returns
-returns c =
-    let e : c.loop-i.i ≡ 0 = omega arith in
-    let whole : length c.args.output.now - 0 ≡ length c.args.output.now = omega arith in
-    rw (e, whole) at c.loop-i.invariant.3
+    (rw (e, c.loop-i.invariant.0) (digit_rest a.value (len - i)), rw (e, drop_set_before c.loop-i.output i (c.loop-i.rest % 256) (omega arith) within, c.loop-i.invariant.0, c.loop-i.invariant.1))

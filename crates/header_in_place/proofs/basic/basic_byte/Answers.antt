@@ -3,8 +3,7 @@ use Prim.Native.Nat.{ℕ, ◌<◌}
 use mathlib.Core.Path.{◌≡◌, sym, ap, ◌∙◌}
 use native.Mathlib.Omega.{arith}
 use lib.ListN.{get_or}
-use Rattle.chunk_header.specs.declared.Csid.{Csid}
-use Rattle.chunk_header.specs.declared.Csid.TheVariants.{Id, Incomplete}
+use Rattle.std.specs.Prelude.{Option, Some, None}
 use Rattle.chunk_header.specs.Basic.{csid}
 use Rattle.chunk_header.specs.Table.{format_of}
 use Rattle.byte_machine.specs.Reader.{Stepped}
@@ -27,9 +26,9 @@ returns-in_default c =
     let h = c.args.h in
     let b = c.args.byte in
     let rows = c.args.rows.now in
-    let read : csid (bytes_of (stage_in h) b) ≡ Incomplete = sym c.get_csid-read.ensures ∙ c.in_default.is in
+    let read : csid (bytes_of (stage_in h) b) ≡ None = sym c.get_csid-read.ensures ∙ c.in_default.is in
     c.keeps.ensures
-    ∙ ap (λ (x : Csid). done_of h (basic_by x (setting_in h) (look rows) (reader_from h) (format_of (get_or (bytes_of (stage_in h) b) 0 0)) (kept_of (stage_in h) b))) (sym read)
+    ∙ ap (λ (x : Option ℕ). done_of h (basic_by x (setting_in h) (look rows) (reader_from h) (format_of (get_or (bytes_of (stage_in h) b) 0 0)) (kept_of (stage_in h) b))) (sym read)
     ∙ ap (λ (x : Stepped). done_of h x) (basic_at (stage_in h) (setting_in h) (look rows) (reader_from h) b (low h c.requires.1))
 
 pub returns : goal.returns
@@ -37,9 +36,9 @@ returns c =
     let h = c.args.h in
     let b = c.args.byte in
     let rows = c.args.rows.now in
-    let id = c.in-Id.id in
-    let read : csid (bytes_of (stage_in h) b) ≡ Id id = sym c.get_csid-read.ensures ∙ c.in-Id.is in
+    let id = c.in-Some.id in
+    let read : csid (bytes_of (stage_in h) b) ≡ Some id = sym c.get_csid-read.ensures ∙ c.in-Some.is in
     c.named.ensures
-    ∙ ap (λ (n : ℕ). done_of h (basic_by (Id id) (setting_in h) (look rows) (reader_from h) (format_of n) (kept_of (stage_in h) b))) c.first_of-first.ensures
-    ∙ ap (λ (x : Csid). done_of h (basic_by x (setting_in h) (look rows) (reader_from h) (format_of (get_or (bytes_of (stage_in h) b) 0 0)) (kept_of (stage_in h) b))) (sym read)
+    ∙ ap (λ (n : ℕ). done_of h (basic_by (Some id) (setting_in h) (look rows) (reader_from h) (format_of n) (kept_of (stage_in h) b))) c.first_of-first.ensures
+    ∙ ap (λ (x : Option ℕ). done_of h (basic_by x (setting_in h) (look rows) (reader_from h) (format_of (get_or (bytes_of (stage_in h) b) 0 0)) (kept_of (stage_in h) b))) (sym read)
     ∙ ap (λ (x : Stepped). done_of h x) (basic_at (stage_in h) (setting_in h) (look rows) (reader_from h) b (low h c.requires.1))

@@ -5,11 +5,11 @@ use mathlib.Core.Path.{◌≡◌, refl, sym}
 use native.Mathlib.Omega.{arith}
 use lib.Dec.{eqb}
 use borrow.Author.Tests.{ne_eqb}
-use Rattle.chunk_header.specs.declared.Csid.TheVariants.{Id, Incomplete}
+use Rattle.std.specs.Prelude.{Some, None}
 use Rattle.chunk_header.specs.Basic.{csid}
 use Rattle.header_in_place.proofs.basic.one.Goals as goal
 
-one_more : (n : ℕ) → n < 2 → cond (eqb n 0) Incomplete (cond (eqb n 1) Incomplete (Id n)) ≡ Incomplete
+one_more : (n : ℕ) → n < 2 → cond (eqb n 0) None (cond (eqb n 1) None (Some n)) ≡ None
 one_more zero h = refl
 one_more (suc zero) h = refl
 one_more (suc (suc n)) h = absurd (omega (arith, h))

@@ -1,0 +1,38 @@
+// Why a message was not written.
+ghost use Rattle.std.specs.Prelude.{◌≡◌};
+ghost use Rattle.serializer.specs.Answer.{number_of};
+
+use std::error::Error;
+use std::fmt;
+
+// The refusals of the encoder, by their numbers.
+#[derive(Clone, Copy, Debug, PartialEq, Eq)]
+pub enum PacketError {
+    NoPayload = 1,
+    MessageTooLong = 2,
+    ChunkSizeZero = 3,
+    InvalidMaxChunkSize = 4,
+    OutputTooShort = 5,
+}
+
+impl PacketError {
+    pub fn number(self) -> u32
+        ensures { result ≡ number_of self }
+    {
+        self as u32
+    }
+}
+
+impl fmt::Display for PacketError {
+    fn fmt<W: fmt::Write>(&self, f: &mut fmt::Formatter<W>) -> fmt::Result {
+        f.write_str(match self {
+            PacketError::NoPayload => "a message has no payload",
+            PacketError::MessageTooLong => "a message is longer than 16777215 bytes",
+            PacketError::ChunkSizeZero => "a chunk size is 0",
+            PacketError::InvalidMaxChunkSize => "a chunk size is above 2147483647",
+            PacketError::OutputTooShort => "the output is shorter than the packet",
+        })
+    }
+}
+
+impl Error for PacketError {}
