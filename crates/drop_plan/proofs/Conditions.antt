@@ -1,20 +1,12 @@
 -- The check judges by document 02's conditions: each test is true exactly where its condition is broken, and the first that is decides.
-use Prim.Native.Nat.{ℕ, zero, suc, ◌+◌, ◌≤◌, ◌<◌}
-use mathlib.Core.Bool.{Bool, true, false, not, cond, ◌||◌}
-use mathlib.Core.List.{List, [], ◌∷◌}
-use mathlib.Core.Logic.{◌⊎◌, inl, inr}
-use mathlib.Core.Path.{◌≡◌, refl, sym, ap}
-use native.Mathlib.Nat.{eq-or-lt_of_le}
-use native.Mathlib.Omega.{arith}
-use lib.Dec.{ltb}
-use lib.ListN.{length, get_or}
-use borrow.Author.Tests.{lt-ltb, ltb-true, ltb-false}
+use Rattle.std.proofs.Common.{ℕ, zero, suc, ◌+◌, ◌≤◌, ◌<◌, Bool, true, false, not, cond, ◌||◌, List, [], ◌∷◌, ◌⊎◌, inl, inr, ◌≡◌, refl, sym, ap, eq-or-lt_of_le, arith, ltb, length, get_or, lt-ltb, ltb-true, ltb-false}
+use Rattle.std.proofs.lemmas.Bool.{and_parts}
 use Rattle.fields.proofs.Tests.{never}
 use Rattle.drop_plan.specs.Answer.{Judgement, accepted, refused}
 use Rattle.drop_plan.specs.Check.{among, includes, judged, rising, within}
 use Rattle.drop_plan.specs.Conditions.{CheckJudges, Condition, FirstBroken, Include, Judges, Rise, ◌unless◌, ◌∈◌}
 use Rattle.drop_plan.specs.Queue.{Queue, droppable, most, places, size, total}
-use Rattle.drop_plan.proofs.Members.{among_in, at_in, both_true, every_in, in_among, in_every, in_places, places_in}
+use Rattle.drop_plan.proofs.Members.{among_in, at_in, every_in, in_among, in_every, in_places, places_in}
 
 -- a test that is true exactly where a condition is broken
 record Breaks (t : Bool) (P : Type 0) : Type 0 where
@@ -30,20 +22,14 @@ breaks_over a b = record { broken = λ e h. let k = ltb-true b a e in omega arit
 
 -- conditions in an order
 judges_none : Judges [] accepted
-judges_none = record { accepts = (λ e. tt, λ u. refl); refuses = λ n. (λ e. not_both e, λ b. absurd b) }
-  where
-    not_both : {n : ℕ} → accepted ≡ refused n → ⊥
-    not_both e = let z : ◌≡◌ {A = ℕ} 0 1 = cc in omega arith
-
-not_accepted : {A : Type 0} {n : ℕ} → refused n ≡ accepted → A
-not_accepted e = absurd (let z : ◌≡◌ {A = ℕ} 0 1 = cc in omega arith)
+judges_none = record { accepts = (λ e. tt, λ u. refl); refuses = λ n. (λ e. cc, λ b. absurd b) }
 
 number_of : {m n : ℕ} → refused m ≡ refused n → n ≡ m
 number_of e = cc
 
 judges_next : (n : ℕ) {P : Type 0} {cs : List Condition} {j : Judgement} (t : Bool) → Breaks t P → Judges cs j → Judges ((n unless P) ∷ cs) (cond t (refused n) j)
 judges_next n {P} {cs} true b later = record {
-  accepts = (λ e. not_accepted e, λ h. absurd (b.broken refl h.0));
+  accepts = (λ e. absurd (cc), λ h. absurd (b.broken refl h.0));
   refuses = λ m. (λ e. inl (number_of e, b.broken refl), broken m);
 }
   where
@@ -60,12 +46,12 @@ judges_next n {P} {cs} {j} false b later = record {
     broken m (inr h) = (later.refuses m).1 h.1
 
 -- "places rise strictly"
-neighbours : (ks : List ℕ) → rising ks ≡ true → (i : ℕ) → suc i < length ks → get_or ks i 0 < get_or ks (suc i) 0
+pub neighbours : (ks : List ℕ) → rising ks ≡ true → (i : ℕ) → suc i < length ks → get_or ks i 0 < get_or ks (suc i) 0
 unfolding rising
 neighbours [] e i h = absurd (omega arith)
 neighbours (p ∷ []) e i h = absurd (omega arith)
-neighbours (p ∷ k ∷ ks) e zero h = ltb-true p k (both_true e).0
-neighbours (p ∷ k ∷ ks) e (suc i) h = neighbours (k ∷ ks) (both_true {a = ltb p k} e).1 i (omega arith)
+neighbours (p ∷ k ∷ ks) e zero h = ltb-true p k (and_parts _ _ e).0
+neighbours (p ∷ k ∷ ks) e (suc i) h = neighbours (k ∷ ks) (and_parts (ltb p k) _ e).1 i (omega arith)
 
 pub rising_rises : (ks : List ℕ) → rising ks ≡ true → Rise ks
 rising_rises ks e i zero l h = absurd (omega arith)
@@ -132,3 +118,7 @@ few n (k ∷ ks) r l =
     let a = at_least (k ∷ ks) r (length ks) last in
     let b = l _ (at_in (k ∷ ks) (length ks) last) in
     omega arith
+
+-- so places that the check finds in order are no more than the packets
+pub few_judged : (n : ℕ) (ks : List ℕ) → rising ks ≡ true → within n ks ≡ true → length ks ≤ n
+few_judged n ks rose lay = few n ks (rising_rises ks rose) (within_lies n ks lay)

@@ -1,10 +1,11 @@
+pub mod Lists
 pub mod Steps
-pub mod Filling
 pub mod Rest
 pub mod Members
 pub mod Rising
 pub mod Conditions
+pub mod Adjacent
 pub mod Planning
 pub mod OnlyPlan
-pub mod Unique
 pub mod Samples
+pub mod Unique

@@ -1,50 +1,29 @@
 -- Being among places, and what holds of every one of them: the tests say so, and the places of a queue are the numbers below its size.
-use Prim.Native.Nat.{ℕ, zero, suc, ◌+◌, ◌≤◌, ◌<◌}
-use mathlib.Core.Bool.{Bool, true, false, cond, ◌&&◌, ◌||◌}
-use mathlib.Core.List.{List, [], ◌∷◌}
-use mathlib.Core.Logic.{◌⊎◌, inl, inr, ⊎_elim}
-use mathlib.Core.Path.{◌≡◌, refl, sym, ap, ◌∙◌}
-use native.Mathlib.Nat.{eq-or-lt_of_le}
-use native.Mathlib.Omega.{arith}
-use lib.Dec.{eqb}
-use lib.ListN.{length, get_or}
-use borrow.Author.Tests.{eq-eqb, eqb-true}
+use Rattle.std.proofs.Common.{ℕ, zero, suc, ◌+◌, ◌≤◌, ◌<◌, Bool, true, false, cond, List, [], ◌∷◌, ◌⊎◌, inl, inr, ⊎_elim, ◌≡◌, refl, sym, ap, ◌∙◌, eq-or-lt_of_le, arith, eqb, length, get_or, eq-eqb, eqb-true}
+use Rattle.std.proofs.lemmas.Bool.{and_parts, or_cases, or_right}
 use Rattle.fields.proofs.Tests.{never}
 use Rattle.drop_plan.specs.Check.{among, every}
 use Rattle.drop_plan.specs.Conditions.{◌∈◌}
 use Rattle.drop_plan.specs.Queue.{places_from, those}
 
--- both of two tests, and one of them
-pub both_true : {a b : Bool} → (a && b) ≡ true → (a ≡ true) × (b ≡ true)
-both_true {a = true} e = (refl, e)
-both_true {a = false} e = never e
-
-either_true : {a b : Bool} → (a || b) ≡ true → (a ≡ true) ⊎ (b ≡ true)
-either_true {a = true} e = inl refl
-either_true {a = false} e = inr e
-
-pub or_right : (a : Bool) {b : Bool} → b ≡ true → (a || b) ≡ true
-or_right true e = refl
-or_right false e = e
-
 -- among some
 pub among_in : (p : ℕ) (ks : List ℕ) → among p ks ≡ true → p ∈ ks
 unfolding among
 among_in p [] e = never e
-among_in p (k ∷ ks) e = ⊎_elim (λ (a : eqb k p ≡ true). inl (sym (eqb-true k p a))) (λ (b : among p ks ≡ true). inr (among_in p ks b)) (either_true e)
+among_in p (k ∷ ks) e = ⊎_elim (λ (a : eqb k p ≡ true). inl (sym (eqb-true k p a))) (λ (b : among p ks ≡ true). inr (among_in p ks b)) (or_cases _ _ e)
 
 pub in_among : (p : ℕ) (ks : List ℕ) → p ∈ ks → among p ks ≡ true
 unfolding among
 in_among p [] m = absurd m
 in_among p (k ∷ ks) (inl e) = rw (eq-eqb k p (sym e))
-in_among p (k ∷ ks) (inr m) = or_right (eqb k p) (in_among p ks m)
+in_among p (k ∷ ks) (inr m) = or_right (eqb k p) _ (in_among p ks m)
 
 -- every one
 pub every_in : (test : ℕ → Bool) (ks : List ℕ) → every test ks ≡ true → (p : ℕ) → p ∈ ks → test p ≡ true
 unfolding every
 every_in test [] e p m = absurd m
-every_in test (k ∷ ks) e p (inl m) = ap test m ∙ (both_true e).0
-every_in test (k ∷ ks) e p (inr m) = every_in test ks (both_true {a = test k} e).1 p m
+every_in test (k ∷ ks) e p (inl m) = ap test m ∙ (and_parts _ _ e).0
+every_in test (k ∷ ks) e p (inr m) = every_in test ks (and_parts (test k) _ e).1 p m
 
 pub in_every : (test : ℕ → Bool) (ks : List ℕ) → ((p : ℕ) → p ∈ ks → test p ≡ true) → every test ks ≡ true
 unfolding every

@@ -1,13 +1,6 @@
 -- A good proposal is what stays behind the newest packet that it drops, and this is the first place for which the rest fits: so it is the plan.
-use Prim.Native.Nat.{ℕ, zero, suc, ◌+◌, ◌-◌, ◌≤◌, ◌<◌}
-use mathlib.Core.Bool.{Bool, true, false, not, cond, ◌||◌}
-use mathlib.Core.List.{List}
-use mathlib.Core.Logic.{◌⊎◌, inl, inr, ⊎_elim}
-use mathlib.Core.Path.{◌≡◌, refl, ap, ◌∙◌}
-use native.Mathlib.Nat.{eq-or-lt_of_le}
-use native.Mathlib.Omega.{arith}
-use lib.Dec.{leb}
-use borrow.Author.Tests.{leb-true, leb-false}
+use Rattle.std.proofs.Common.{ℕ, zero, suc, ◌+◌, ◌-◌, ◌≤◌, ◌<◌, Bool, true, false, not, cond, ◌||◌, List, ◌⊎◌, inl, inr, ⊎_elim, ◌≡◌, refl, ap, ◌∙◌, eq-or-lt_of_le, arith, leb, leb-true, leb-false}
+use Rattle.std.proofs.lemmas.Bool.{or_right}
 use Rattle.fields.proofs.Tests.{clash, never}
 use Rattle.drop_plan.specs.Check.{among}
 use Rattle.drop_plan.specs.Conditions.{AllHold, conditions, ◌∈◌}
@@ -15,7 +8,7 @@ use Rattle.drop_plan.specs.Plan.{rest, staying, until}
 use Rattle.drop_plan.specs.Promise.{Dropped, Good, OnlyPlan}
 use Rattle.drop_plan.specs.Queue.{Queue, droppable, length_at, size, total}
 use Rattle.drop_plan.proofs.Conditions.{check_judges}
-use Rattle.drop_plan.proofs.Members.{among_in, in_among, or_right}
+use Rattle.drop_plan.proofs.Members.{among_in, in_among}
 use Rattle.drop_plan.proofs.Planning.{ended, in_rest, stays_in, those_rise}
 use Rattle.drop_plan.proofs.Rest.{rest_last, rest_next}
 use Rattle.drop_plan.proofs.Rising.{same_places}
@@ -76,7 +69,7 @@ module _ (q : Queue) (limit : ℕ) (ks : List ℕ) (g : Good q limit ks) where
 
           go : (c : Bool) → leb start p ≡ c → (d : Bool) → droppable q p ≡ d → (leb start p || not (droppable q p)) ≡ true
           go true e d f = rw e
-          go false e false f = or_right (leb start p) (rw f)
+          go false e false f = or_right (leb start p) _ (rw f)
           go false e true f = absurd (newest e f start refl)
 
       back : (p : ℕ) → p ∈ rest q start → p ∈ ks

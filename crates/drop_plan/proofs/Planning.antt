@@ -1,21 +1,14 @@
 -- The plan is good: what stays rises in the queue with every packet that is not droppable, the search ends where it fits, and not before.
-use Prim.Native.Nat.{ℕ, zero, suc, ◌+◌, ◌≤◌, ◌<◌}
-use mathlib.Core.Bool.{Bool, true, false, not, cond, ◌||◌}
-use mathlib.Core.List.{[], ◌∷◌}
-use mathlib.Core.Logic.{◌⊎◌, inl, inr}
-use mathlib.Core.Path.{◌≡◌, refl, sym, ap, ◌∙◌}
-use native.Mathlib.Nat.{eq-or-lt_of_le}
-use native.Mathlib.Omega.{arith}
-use lib.Dec.{leb, ltb}
-use borrow.Author.Tests.{leb-true, leb-false, ltb-true, ltb-false, not-true}
+use Rattle.std.proofs.Common.{ℕ, zero, suc, ◌+◌, ◌≤◌, ◌<◌, Bool, true, false, not, cond, ◌||◌, [], ◌∷◌, ◌⊎◌, inl, inr, ◌≡◌, refl, sym, ap, ◌∙◌, eq-or-lt_of_le, arith, leb, ltb, leb-true, leb-false, ltb-true, ltb-false}
+use Rattle.std.proofs.lemmas.Bool.{not-true, or_right}
 use Rattle.fields.proofs.Tests.{clash}
-use Rattle.drop_plan.specs.Answer.{Outcome, cannot, keep, unplanned}
+use Rattle.drop_plan.specs.Answer.{Outcome, cannot, unplanned}
 use Rattle.drop_plan.specs.Conditions.{Include, Rise, ◌∈◌}
 use Rattle.drop_plan.specs.Plan.{beside, plan, planned, proposed, rest, staying, undroppable, until}
 use Rattle.drop_plan.specs.Promise.{Dropped, Good, PlannerPlans, Plans}
 use Rattle.drop_plan.specs.Queue.{Queue, droppable, most, places, places_from, size, those, total}
 use Rattle.drop_plan.proofs.Conditions.{check_judges}
-use Rattle.drop_plan.proofs.Members.{in_places, in_those, or_right, places_in, those_in}
+use Rattle.drop_plan.proofs.Members.{in_places, in_those, places_in, those_in}
 use Rattle.drop_plan.proofs.Rising.{above_rises}
 use Rattle.drop_plan.proofs.Rest.{rest_last, rest_next, those_same}
 
@@ -43,7 +36,7 @@ module _ (q : Queue) (start : ℕ) where
   in_rest p h e = in_those (staying q.marks start) (places q) p (in_places (size q) 0 p (omega arith) (omega arith)) e
 
   rest_includes : Include q (rest q start)
-  rest_includes p h d = in_rest p h (or_right (leb start p) (rw d))
+  rest_includes p h d = in_rest p h (or_right (leb start p) _ (rw d))
 
   -- a packet that is dropped stands before `start` and is droppable
   dropped : (p : ℕ) → Dropped q (rest q start) p → (p < start) × (droppable q p ≡ true)
@@ -52,7 +45,7 @@ module _ (q : Queue) (start : ℕ) where
       go : (b : Bool) → leb start p ≡ b → (d : Bool) → droppable q p ≡ d → (p < start) × (droppable q p ≡ true)
       go true e d f = absurd (h.1 (in_rest p h.0 (rw e)))
       go false e true f = (leb-false start p e, f)
-      go false e false f = absurd (h.1 (in_rest p h.0 (or_right (leb start p) (rw f))))
+      go false e false f = absurd (h.1 (in_rest p h.0 (or_right (leb start p) _ (rw f))))
 
   -- a droppable one that is kept does not
   kept_later : (p : ℕ) → p ∈ rest q start → droppable q p ≡ true → start ≤ p
@@ -132,15 +125,6 @@ can't = beside cannot []
 apart : {A : Type 0} {x y : Outcome} → x ≡ y → ¬ (x.answer ≡ y.answer) → A
 apart e n = absurd (n (ap (λ (o : Outcome). o.answer) e))
 
-not_cannot : {n : ℕ} → ¬ (unplanned n ≡ cannot)
-not_cannot e = let z : ◌≡◌ {A = ℕ} 0 1 = cc in omega arith
-
-not_keep : {n k : ℕ} → ¬ (unplanned n ≡ keep k)
-not_keep e = let z : ◌≡◌ {A = ℕ} 0 1 = cc in omega arith
-
-not_kept : {k : ℕ} → ¬ (cannot ≡ keep k)
-not_kept e = let z : ◌≡◌ {A = ℕ} 0 1 = cc in omega arith
-
 pub planner_plans : PlannerPlans
 unfolding planned
 planner_plans q limit = go (ltb most (size q)) refl (ltb limit (total q.lengths (undroppable q))) refl
@@ -151,8 +135,8 @@ planner_plans q limit = go (ltb most (size q)) refl (ltb limit (total q.lengths 
         let many = ltb-true most (size q) e in
         record {
           too_many = (λ x. many, λ x. is);
-          cannots = (λ x. apart (sym is ∙ x) not_cannot, λ x. absurd (omega arith));
-          keeps = (λ x. apart (sym is ∙ x) not_keep, λ x. absurd (omega arith));
+          cannots = (λ x. apart (sym is ∙ x) (λ e. cc), λ x. absurd (omega arith));
+          keeps = (λ x. apart (sym is ∙ x) (λ e. cc), λ x. absurd (omega arith));
           good = good q limit;
         }
     go false e true f =
@@ -160,9 +144,9 @@ planner_plans q limit = go (ltb most (size q)) refl (ltb limit (total q.lengths 
         let few = ltb-false most (size q) e in
         let short = ltb-true limit (total q.lengths (undroppable q)) f in
         record {
-          too_many = (λ x. apart (sym x ∙ is) not_cannot, λ x. absurd (omega arith));
+          too_many = (λ x. apart (sym x ∙ is) (λ e. cc), λ x. absurd (omega arith));
           cannots = (λ x. (few, short), λ x. is);
-          keeps = (λ x. apart (sym is ∙ x) not_kept, λ x. absurd (omega arith));
+          keeps = (λ x. apart (sym is ∙ x) (λ e. cc), λ x. absurd (omega arith));
           good = good q limit;
         }
     go false e false f =
@@ -170,8 +154,8 @@ planner_plans q limit = go (ltb most (size q)) refl (ltb limit (total q.lengths 
         let few = ltb-false most (size q) e in
         let enough = ltb-false limit (total q.lengths (undroppable q)) f in
         record {
-          too_many = (λ x. apart (sym x ∙ is) not_keep, λ x. absurd (omega arith));
-          cannots = (λ x. apart (sym x ∙ is) not_kept, λ x. absurd (omega arith));
+          too_many = (λ x. apart (sym x ∙ is) (λ e. cc), λ x. absurd (omega arith));
+          cannots = (λ x. apart (sym x ∙ is) (λ e. cc), λ x. absurd (omega arith));
           keeps = (λ x. (few, enough), λ x. is);
           good = good q limit;
         }

@@ -1,15 +1,7 @@
 -- What stays where one packet more may be dropped: it changes at that packet alone, whose length goes where it is droppable.
-use Prim.Native.Nat.{ℕ, zero, suc, ◌+◌, ◌-◌, ◌≤◌, ◌<◌}
-use mathlib.Core.Bool.{Bool, true, false, not, cond}
-use mathlib.Core.List.{List}
-use mathlib.Core.Logic.{◌⊎◌, inl, inr}
-use mathlib.Core.Path.{◌≡◌, refl, sym, ap, ◌∙◌}
-use native.Mathlib.Numerals.{add-one}
-use native.Mathlib.Nat.{eq-or-lt_of_le}
-use native.Mathlib.Omega.{arith}
-use lib.Dec.{leb}
-use lib.ListN.{get_or}
-use borrow.Author.Tests.{leb-true, leb-false, le-leb, lt-leb}
+use Rattle.std.proofs.Common.{ℕ, zero, suc, ◌+◌, ◌-◌, ◌≤◌, ◌<◌, Bool, true, false, not, cond, List, ◌⊎◌, inl, inr, ◌≡◌, refl, sym, ap, ◌∙◌, add-one, eq-or-lt_of_le, arith, leb, get_or, leb-true, leb-false, le-leb}
+use Rattle.std.proofs.lemmas.Bool.{lt-leb}
+use Rattle.std.proofs.lemmas.Bool.Decides.{nat_tests}
 use Rattle.drop_plan.specs.Plan.{rest, staying, undroppable, until}
 use Rattle.drop_plan.specs.Queue.{Queue, droppable, length_at, places_from, size, those, total}
 use Rattle.drop_plan.proofs.Steps.{total_those}
@@ -92,3 +84,7 @@ unfolding until
 until_none q limit start n h =
     let e : n - start ≡ 0 = omega arith in
     rw e
+
+pub ruleset propose_steps = (rest_last, nat_tests)
+
+pub ruleset search_steps = (rest_next, until_next, until_none, nat_tests)

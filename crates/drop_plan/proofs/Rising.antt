@@ -1,10 +1,5 @@
 -- Places that rise: a first one and others that lie after it; two such lists with the same places are equal.
-use Prim.Native.Nat.{ℕ, zero, suc, ◌<◌}
-use mathlib.Core.List.{List, [], ◌∷◌}
-use mathlib.Core.Logic.{inl, inr}
-use mathlib.Core.Path.{◌≡◌, refl, sym}
-use native.Mathlib.Omega.{arith}
-use lib.ListN.{length, get_or}
+use Rattle.std.proofs.Common.{ℕ, zero, suc, ◌<◌, List, [], ◌∷◌, inl, inr, ◌≡◌, refl, sym, arith, length, get_or}
 use Rattle.drop_plan.specs.Conditions.{Rise, ◌∈◌}
 use Rattle.drop_plan.proofs.Members.{at_in}
 

@@ -1,9 +1,5 @@
 -- Small queues, computed: each condition broken alone and two at once, and plans at the limit and one byte below it.
-use mathlib.Core.Bool.{true, false}
-use mathlib.Core.List.{List, [], ◌∷◌}
-use mathlib.Core.Path.{◌≡◌, refl}
-use Prim.Native.Nat.{ℕ}
-use lib.ListN.{replicate}
+use Rattle.std.proofs.Common.{true, false, List, [], ◌∷◌, ◌≡◌, refl, ℕ, replicate}
 use Rattle.drop_plan.specs.Answer.{Judgement, Outcome, accepted, cannot, refused, unplanned}
 use Rattle.drop_plan.specs.Check.{among, every, includes, judged, rising, within}
 use Rattle.drop_plan.specs.Plan.{beside, planned, proposed, until}

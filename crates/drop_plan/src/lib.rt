@@ -9,74 +9,58 @@ ghost use Rattle.drop_plan.specs.Check.{judged};
 ghost use Rattle.drop_plan.specs.Plan.{planned};
 ghost use Rattle.drop_plan.specs.Queue.{queue};
 
+mod error;
 mod judging;
 mod keep;
+mod places;
 mod queue;
 
-use crate::judging::{include, kept_length, lie_in, rise};
-use crate::keep::{first_to_stay, keep_from, rest_length, without_places};
+pub use crate::error::PlanError;
+use crate::judging::rise;
+pub use crate::places::Places;
+use crate::queue::Queue;
 
 // A queue holds so many packets at most.
 pub const MOST: usize = 64;
 
-// What the check says of a proposal.
-#[derive(Clone, Copy)]
-pub enum Verdict {
-    Accepted,
-    // 20 to 24
-    Refused(u8),
-}
-
-// What the planner answers.
-#[derive(Clone, Copy)]
-pub enum Plan {
-    // so many places, the first of those beside it
-    Keep(usize),
-    // the packets that are not droppable do not fit
-    Cannot,
-    // 24
-    Refused(u8),
-}
-
-// The planner's answer with its places; those after them are 0.
-#[derive(Clone, Copy)]
-pub struct Proposal {
-    pub plan: Plan,
-    pub places: [u32; 64],
-}
-
-// Judges a proposal, whoever made it.
-pub fn judge(lengths: &[u32], droppable: &[bool], limit: u64, places: &[u32]) -> Verdict
+// Judges a proposal, whoever made it: `Ok` where it is accepted.
+// Kept: two slices, as `queue` of specs/Queue.antt takes them: a slice of packets would shut out slices of different lengths.
+#[tactic(auto, using(std::proofs::lemmas::Bool::Decides::nat_tests), unfolding(crate::specs::Check::judged))]
+pub fn judge(
+    lengths: &[u32],
+    droppable: &[bool],
+    limit: u64,
+    places: &[u32],
+) -> Result<(), PlanError>
     ensures { verdict_of result ≡ judged (queue lengths.now droppable.now) limit places.now }
 {
-    if MOST < lengths.len() {
-        return Verdict::Refused(24);
-    }
+    let queue = Queue::new(lengths, droppable)?;
     if !rise(places) {
-        return Verdict::Refused(20);
+        return Err(PlanError::PlacesDoNotRise);
     }
-    if !lie_in(lengths.len(), places) {
-        return Verdict::Refused(21);
+    if !queue.reaches(places) {
+        return Err(PlanError::PlaceOutsideQueue);
     }
-    if !include(lengths, droppable, places) {
-        return Verdict::Refused(22);
+    if !queue.is_kept_by(places) {
+        return Err(PlanError::UndroppableLeftOut);
     }
-    if limit < kept_length(lengths, places) {
-        return Verdict::Refused(23);
+    if limit < queue.kept_length(places) {
+        return Err(PlanError::OverLimit);
     }
-    Verdict::Accepted
+    Ok(())
 }
 
-// Drops the oldest droppable packets until the rest fits.
-pub fn propose(lengths: &[u32], droppable: &[bool], limit: u64) -> Proposal
+// Drops the oldest droppable packets until the rest fits, and proposes the places of the rest; `None` where the packets that are
+// not droppable do not fit.
+// Kept: two slices, as in `judge`.
+#[tactic(auto, using(crate::proofs::Rest::propose_steps), unfolding(crate::specs::Plan::planned))]
+pub fn propose(lengths: &[u32], droppable: &[bool], limit: u64) -> Result<Option<Places>, PlanError>
     ensures { outcome_of result ≡ planned (queue lengths.now droppable.now) limit }
 {
-    if MOST < lengths.len() {
-        return without_places(Plan::Refused(24));
+    let queue = Queue::new(lengths, droppable)?;
+    if limit < queue.rest_length(queue.len()) {
+        return Ok(None);
     }
-    if limit < rest_length(lengths, droppable, lengths.len()) {
-        return without_places(Plan::Cannot);
-    }
-    let start = first_to_stay(lengths, droppable, limit);
-    keep_from(start, lengths, droppable)
+    let start = queue.first_to_stay(limit);
+    Ok(Some(queue.rest(start)))
 }

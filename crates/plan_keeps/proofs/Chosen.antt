@@ -1,14 +1,6 @@
 -- Of packets, those at places that rise: going through the packets and asking for each whether its place is among them, or through the places, is the same.
-use Prim.Native.Nat.{ℕ, zero, suc, ◌+◌, ◌≤◌, ◌<◌}
-use mathlib.Core.Bool.{Bool, true, false}
-use mathlib.Core.List.{List, [], ◌∷◌, ◌++◌, map, append_assoc}
-use mathlib.Core.Logic.{◌⊎◌, inl, inr}
-use mathlib.Core.Path.{◌≡◌, refl, sym, ◌∙◌}
-use native.Mathlib.Nat.{eq-or-lt_of_le}
-use native.Mathlib.Omega.{arith}
-use lib.ListN.{length, take, drop, get_or, length-append}
-use lib.Seq.{drop-append_seam}
-use borrow.Author.Tests.{eq-eqb, ne_eqb}
+use Rattle.std.proofs.Common.{ℕ, zero, suc, ◌+◌, ◌≤◌, ◌<◌, Bool, true, false, List, [], ◌∷◌, ◌++◌, map, append_assoc, ◌⊎◌, inl, inr, ◌≡◌, refl, sym, ◌∙◌, eq-or-lt_of_le, arith, length, take, drop, get_or, length-append, eq-eqb, ne_eqb}
+use Rattle.std.proofs.Math.Seq.{drop-append_seam}
 use Rattle.drop_plan.specs.Check.{among}
 use Rattle.drop_plan.specs.Conditions.{Rise, ◌∈◌}
 use Rattle.drop_plan.specs.Queue.{total}

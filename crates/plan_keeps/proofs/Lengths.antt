@@ -1,13 +1,6 @@
 -- A packet is at most its payload and 16 bytes a chunk, a chunk has a byte of payload at least, and a payload is at most 16777215 bytes: so its length is of 32 bits.
-use Prim.Native.Nat.{ℕ, zero, suc, ◌+◌, ◌-◌, ◌*◌, ◌/◌, ◌^◌, ◌≤◌, ◌<◌}
-use mathlib.Core.Bool.{Bool, true, false, cond}
-use mathlib.Core.List.{List, [], ◌∷◌, ◌++◌, map}
-use mathlib.Core.Path.{◌≡◌, refl}
-use native.Mathlib.Nat.{div-lt_iff_lt-mul, mul-le-mul}
-use native.Mathlib.Omega.{arith}
-use lib.Dec.{eqb, ltb}
-use lib.ListN.{length, length-take}
-use borrow.Author.Tests.{eqb-false, ltb-false}
+use Rattle.std.proofs.Common.{ℕ, zero, suc, ◌+◌, ◌-◌, ◌*◌, ◌/◌, ◌^◌, ◌≤◌, ◌<◌, Bool, true, false, cond, List, [], ◌∷◌, ◌++◌, map, ◌≡◌, refl, div-lt_iff_lt-mul, mul-le-mul, arith, eqb, ltb, length, length-take, ltb-false}
+use Rattle.std.proofs.lemmas.Bool.{eqb-false}
 use Rattle.fields.proofs.Endian.{length_big}
 use Rattle.fields.specs.Endian.{big_endian}
 use Rattle.chunk_header.specs.Limits.{max_length, max_size}

@@ -1,6 +1,5 @@
 -- The session gives what is expected, by computing the definitions.
-use mathlib.Core.List.{[], ◌∷◌, map}
-use mathlib.Core.Path.{◌≡◌, refl}
+use Rattle.std.proofs.Common.{[], ◌∷◌, map, ◌≡◌, refl}
 use Rattle.fields.specs.Endian.{big_endian, little_endian, gather}
 use Rattle.chunk_header.specs.Basic.{csid}
 use Rattle.chunk_header.specs.Layout.{chunk_bytes}

@@ -70,7 +70,7 @@ impl Calls {
             "time" => make_time(words, text),
             "control" => make_control(words, bytes, output, text),
             "settings" => make_settings(words, bytes, output, text),
-            "plan" => make_plan(words, bytes, output, text),
+            "plan" => make_plan(words, bytes, text),
             "body" => make_body(words, bytes, output, text),
             _ => None,
         }

@@ -1,61 +1,63 @@
 // A queue and places, as lines say them in bytes.
-use fields::{number_at, put_number};
+use crate::buffer::Buffer;
 
-// What bytes say that are to be records of the same length.
-#[derive(Clone, Copy)]
-pub enum Count {
-    // how many
-    Of(usize),
-    Bad,
+// A queue of more packets, and more places, fit on no line.
+const MOST_PACKETS: usize = 26214;
+
+const MOST_PLACES: usize = 32768;
+
+// The packets' lengths, oldest first, and their droppable marks.
+#[derive(Drop)]
+pub struct Queue {
+    lengths: Buffer<u32, MOST_PACKETS>,
+    droppable: Buffer<bool, MOST_PACKETS>,
 }
 
-// Puts the packets' lengths and droppable marks that the bytes say, five a packet: its length in four, then 1 or 0.
-pub fn read_queue(bytes: &[u8], lengths: &mut [u32], droppable: &mut [bool]) -> Count {
-    let count = bytes.len() / 5;
-    if bytes.len() % 5 != 0 {
-        return Count::Bad;
-    }
-    if lengths.len() < count {
-        return Count::Bad;
-    }
-    if droppable.len() < count {
-        return Count::Bad;
-    }
-    let mut i = 0;
-    while i < count {
-        let mark = bytes[5 * i + 4];
-        if 1 < mark {
-            return Count::Bad;
+impl Queue {
+    // The packets that the bytes say, five a packet: its length in four, then 1 or 0.
+    pub fn read(bytes: &[u8]) -> Option<Queue> {
+        if bytes.len() % 5 != 0 {
+            return None;
         }
-        lengths[i] = number_at(bytes, 5 * i, 4);
-        droppable[i] = mark == 1;
-        i += 1;
+        let mut queue = Queue {
+            lengths: Buffer::new(0),
+            droppable: Buffer::new(false),
+        };
+        for packet in bytes.chunks_exact(5) {
+            let [a, b, c, d, mark] = packet else {
+                return None;
+            };
+            queue.lengths.push(u32::from_be_bytes([*a, *b, *c, *d]))?;
+            queue.droppable.push(read_mark(*mark)?)?;
+        }
+        Some(queue)
     }
-    Count::Of(count)
+
+    // The lengths and the marks.
+    pub fn slices(&self) -> (&[u32], &[bool]) {
+        (self.lengths.as_slice(), self.droppable.as_slice())
+    }
 }
 
-// Puts the places that the bytes say, four a place.
-pub fn read_places(bytes: &[u8], places: &mut [u32]) -> Count {
-    let count = bytes.len() / 4;
+fn read_mark(byte: u8) -> Option<bool> {
+    match byte {
+        0 => Some(false),
+        1 => Some(true),
+        _ => None,
+    }
+}
+
+// The places that the bytes say, four a place.
+pub fn read_places(bytes: &[u8]) -> Option<Buffer<u32, MOST_PLACES>> {
     if bytes.len() % 4 != 0 {
-        return Count::Bad;
+        return None;
     }
-    if places.len() < count {
-        return Count::Bad;
+    let mut places = Buffer::new(0);
+    for place in bytes.chunks_exact(4) {
+        let [a, b, c, d] = place else {
+            return None;
+        };
+        places.push(u32::from_be_bytes([*a, *b, *c, *d]))?;
     }
-    let mut i = 0;
-    while i < count {
-        places[i] = number_at(bytes, 4 * i, 4);
-        i += 1;
-    }
-    Count::Of(count)
-}
-
-// Writes the planner's places to the output, four bytes a place.
-pub fn write_places(places: &[u32; 64], output: &mut [u8]) {
-    let mut i = 0;
-    while i < 64 {
-        put_number(places[i], 4, output, 4 * i);
-        i += 1;
-    }
+    Some(places)
 }
