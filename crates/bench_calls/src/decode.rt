@@ -3,6 +3,7 @@ use bench_parts::decode_all;
 use in_place::{TABLE_LENGTH, make, next_message, set_max_chunk_size};
 
 // Decodes all of `input`, and tells messages, calls, bytes taken and the checksum.
+// Kept: the C interface lends numbers and a table one by one, and has 0 for all at once.
 #[unsafe(no_mangle)]
 pub extern "C" fn bench_decode(
     held: &mut [u32; 24],

@@ -6,6 +6,7 @@ use time::RtmpTimestamp;
 
 // Encodes `width` bytes of the source after the other as a message each, all at once for 0, with the kinds and times given, or 0
 // where there are none, and tells messages, calls, bytes written and the checksum.
+// Kept: the C interface has 0 for all at once, and the kinds and times apart.
 #[unsafe(no_mangle)]
 pub extern "C" fn bench_encode(
     size: u32,

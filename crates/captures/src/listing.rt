@@ -50,5 +50,5 @@ pub fn list_all(rt: &impl Print, capture: &[u8], cut: Cut) -> io::Result<()> {
     } else {
         "inside a message"
     };
-    println!(rt; "used {} of {}, {place}", walk.used(), capture.len())
+    println!(rt; "used {} of {}, {place}", walk.used, capture.len())
 }

@@ -9,7 +9,7 @@ use crate::listing::list_all;
 use std::rt::Files;
 use std::{fs, io};
 use test_calls::Cut;
-use test_parts::{part, read_full};
+use test_parts::read_full;
 
 // The longest capture.
 const CAPTURE_LENGTH: usize = 65536;
@@ -21,10 +21,11 @@ const NAMES: [&str; 4] = [
     "obs-pub.c2s.rtmp",
 ];
 
-// Reads the capture, and answers how long it is.
-fn read(rt: &impl Files, name: &str, capture: &mut [u8]) -> io::Result<usize> {
+// Reads the capture into what is lent.
+fn read<'a>(rt: &impl Files, name: &str, room: &'a mut [u8]) -> io::Result<&'a [u8]> {
     let mut file = fs::open(rt, name)?;
-    read_full(&mut file, capture)
+    let length = read_full(&mut file, room)?;
+    Ok(&room[..length])
 }
 
 // Lists the capture in both cuts.
@@ -36,9 +37,9 @@ fn list_both(rt: &impl Print, name: &str, capture: &[u8]) -> io::Result<()> {
 }
 
 // Reads the capture and lists it. Where it cannot be read, its name is on standard error.
-fn run(rt: &(impl Files + Print + Eprint), name: &str, capture: &mut [u8]) -> io::Result<()> {
-    match read(rt, name, capture) {
-        Ok(length) => list_both(rt, name, part(capture, 0, length)),
+fn run(rt: &(impl Files + Print + Eprint), name: &str, room: &mut [u8]) -> io::Result<()> {
+    match read(rt, name, room) {
+        Ok(capture) => list_both(rt, name, capture),
         Err(error) => {
             eprintln!(rt; "{name}: {error}")?;
             Err(error)
@@ -47,9 +48,9 @@ fn run(rt: &(impl Files + Print + Eprint), name: &str, capture: &mut [u8]) -> io
 }
 
 fn main(rt: HostRuntime) -> io::Result<()> {
-    let mut capture = [0; CAPTURE_LENGTH];
+    let mut room = [0; CAPTURE_LENGTH];
     for name in NAMES {
-        run(&rt, name, &mut capture)?;
+        run(&rt, name, &mut room)?;
     }
     Ok(())
 }

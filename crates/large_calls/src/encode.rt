@@ -3,6 +3,7 @@ use test_calls::encoder;
 use time::RtmpTimestamp;
 
 // Encodes a message of type 9 on stream 1 in chunks of `size`, and tells the refusal, or 0, and the bytes written.
+// Kept: the C interface has a number for the flag, and 0 where there is no refusal.
 #[unsafe(no_mangle)]
 pub extern "C" fn large_encode(
     size: u32,

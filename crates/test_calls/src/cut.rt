@@ -1,4 +1,5 @@
 // How an input is cut: into pieces of one length, or of lengths that look like chance.
+ghost use Rattle.std.specs.Prelude.{◌≡◌, ◌<◌, ℕ};
 
 #[derive(Clone, Copy, Debug)]
 pub enum Cut {
@@ -14,7 +15,10 @@ impl Cut {
     }
 
     // How long the next piece is.
-    pub fn next_length(&mut self) -> usize {
+    pub fn next_length(&mut self) -> usize
+        ensures even { (length : ℕ) → self.old ≡ Cut.Even length → result ≡ length }
+        ensures random { (seed : ℕ) → self.old ≡ Cut.Random seed → 0 < result }
+    {
         match self {
             Cut::Even(length) => *length,
             Cut::Random(seed) => {
@@ -27,7 +31,9 @@ impl Cut {
 }
 
 // A length, at least 1: short ones are as frequent as long ones.
-fn some_length(chance: u32) -> usize {
+fn some_length(chance: u32) -> usize
+    ensures { 0 < result }
+{
     let limit = [3, 40, 300, 5000][chance as usize % 4];
     chance as usize / 4 % limit + 1
 }

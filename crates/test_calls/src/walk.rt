@@ -14,10 +14,10 @@ pub struct Walk<'a> {
     input: &'a [u8],
     cut: Cut,
     // how many bytes are used, and where the piece ends that they are in
-    used: usize,
+    pub used: usize,
     end: usize,
     // how many calls were made
-    calls: u64,
+    pub calls: u64,
     ghost in_piece: { used ≤ end },
     ghost in_input: { end ≤ length input.now },
 }
@@ -32,16 +32,6 @@ impl<'a> Walk<'a> {
             end: 0,
             calls: 0,
         }
-    }
-
-    // How many bytes are used.
-    pub fn used(&self) -> usize {
-        self.used
-    }
-
-    // How many calls were made.
-    pub fn calls(&self) -> u64 {
-        self.calls
     }
 
     // Whether nothing is left to offer.

@@ -88,7 +88,7 @@ pub fn decode_all(rt: &impl Print, line: Line<'_>, piece: usize, is_told: bool) 
     }
     Ok(End {
         count: coming.count,
-        used: walk.used(),
+        used: walk.used,
         is_good,
         may_tell: decoder.may_tell(),
     })
