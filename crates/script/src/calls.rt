@@ -37,7 +37,7 @@ impl Calls {
     pub fn new() -> Self {
         let mut held = [0; 24];
         let mut rows = [0; TABLE_LENGTH];
-        in_place::make(&mut held, &mut rows, FIRST_ROOM);
+        let _ = in_place::make(&mut held, &mut rows, FIRST_ROOM);
         Calls {
             encoder: ChunkSerializer::new(),
             held,
