@@ -1,10 +1,5 @@
 -- A byte of a header goes on within the header, is refused or opens the payload: what holds of these three holds of its step, whatever its field.
-use Prim.Native.Nat.{ℕ}
-use mathlib.Core.Bool.{false, not}
-use mathlib.Core.List.{[], ◌∷◌}
-use mathlib.Core.Path.{◌≡◌, refl}
-use lib.Dec.{eqb, leb, ltb}
-use Rattle.std.specs.Prelude.{Option, Some, None}
+use Rattle.std.proofs.Common.{◌≡◌, ℕ, false, not, eqb, ltb, leb, [], ◌∷◌, Some, None, Option, refl}
 use Rattle.chunk_header.specs.declared.ChunkHeaderFormat.{ChunkHeaderFormat}
 use Rattle.chunk_header.specs.declared.HeaderField.{HeaderField}
 use Rattle.chunk_header.specs.declared.HeaderField.TheVariants.{Timestamp, MessageLength as Length, MessageTypeId as TypeId, MessageStreamId as StreamId}

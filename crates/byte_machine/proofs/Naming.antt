@@ -1,11 +1,5 @@
 -- The three ways a whole basic header goes: refused, a stream that has a row, or one that claims a free row.
-use Prim.Native.Nat.{ℕ, ◌≤◌, ◌<◌}
-use mathlib.Core.Path.{◌≡◌}
-use mathlib.Core.Logic.{◌≢◌}
-use mathlib.Core.Bool.{not}
-use mathlib.Core.List.{List}
-use lib.Dec.{ltb, eqb}
-use borrow.Author.Tests.{lt-ltb, le-ltb, eq-eqb, ne_eqb}
+use Rattle.std.proofs.Common.{◌≡◌, ℕ, ◌<◌, ◌≤◌, not, eqb, ltb, ◌≢◌, List, le-ltb, lt-ltb, eq-eqb, ne_eqb}
 use Rattle.chunk_header.specs.declared.ChunkHeaderFormat.{ChunkHeaderFormat}
 use Rattle.byte_machine.specs.Reader.{Reader, refuse}
 use Rattle.byte_machine.specs.Step.{claims, known, named}

@@ -1,7 +1,5 @@
 -- What holds where a reader stops at a field, and where it goes past them all, holds of the next field: each is there or passed over.
-use mathlib.Core.Bool.{Bool, true, false, cond}
-use mathlib.Core.Path.{◌≡◌, refl}
-use lib.Dec.{eqb}
+use Rattle.std.proofs.Common.{◌≡◌, Bool, true, false, cond, eqb, refl}
 use Rattle.chunk_header.specs.declared.HeaderField.{HeaderField}
 use Rattle.chunk_header.specs.declared.HeaderField.TheVariants.{Timestamp, MessageLength, MessageTypeId, MessageStreamId}
 use Rattle.byte_machine.specs.Reader.{Reader, Stepped, at, go}

@@ -1,14 +1,7 @@
 -- What putting a stream's row does to a table: that stream has the row, every other one what it had, and the ids stand in the order in which they claimed.
-use Prim.Native.Nat.{ℕ, zero, suc, ◌<◌, ◌≤◌}
-use mathlib.Core.Bool.{Bool, true, false, cond}
-use mathlib.Core.List.{List, [], ◌∷◌, ◌++◌}
-use mathlib.Core.Logic.{◌≢◌, ◌⊎◌, inl, inr}
+use Rattle.std.proofs.Common.{◌≡◌, ℕ, zero, suc, ◌<◌, ◌≤◌, Bool, true, false, cond, eqb, ltb, ◌≢◌, ◌⊎◌, List, [], ◌∷◌, ◌++◌, length, get_or, sym, refl, ap, ◌∙◌, inl, inr, arith, length-append, ltb-false, ltb-true, lt-ltb, eqb-true}
 use mathlib.Core.Option.{some}
-use mathlib.Core.Path.{◌≡◌, refl, sym, ap, ◌∙◌}
-use native.Mathlib.Omega.{arith}
-use lib.Dec.{eqb, ltb}
-use lib.ListN.{length, get_or, length-append}
-use borrow.Author.Tests.{eqb-false, eqb-true, lt-ltb, ltb-true, ltb-false}
+use borrow.Author.Tests.{eqb-false}
 use Rattle.fields.specs.Cases.{among}
 use Rattle.fields.specs.Search.{seek_first}
 use Rattle.fields.proofs.Search.{either_way, first_is, first_tells, first_within, last_shorter}

@@ -1,15 +1,8 @@
 -- What putting a row changes and what a search finds: a row is six numbers of its own, only the rows counted are searched, and a row that is put is counted.
-use Prim.Native.Nat.{ℕ, zero, suc, ◌+◌, ◌%◌, ◌≤◌, ◌<◌, min}
-use mathlib.Core.Path.{◌≡◌, refl, sym, ap, subst, ◌∙◌}
-use mathlib.Core.Logic.{◌≢◌}
-use mathlib.Core.Bool.{Bool, true, false, cond}
-use mathlib.Core.List.{List, [], ◌∷◌}
-use native.Mathlib.Nat.{add-zero, not-suc-le-zero, mod-eq_of_lt}
-use native.Mathlib.Omega.{arith}
-use lib.Dec.{eqb, ltb}
-use lib.ListN.{get_or, get_or-replicate, length, length-replicate, length-set, set}
-use lib.Seq.{sets, length-sets, get_or-set_same, get_or-set_other, set-get_or}
-use borrow.Author.Tests.{ne_eqb, eqb-true, eqb-false, le-ltb, lt-ltb, ltb-true, ltb-false}
+use Rattle.std.proofs.Common.{◌≡◌, ℕ, zero, suc, ◌+◌, ◌%◌, ◌<◌, ◌≤◌, min, Bool, true, false, cond, eqb, ltb, ◌≢◌, List, [], ◌∷◌, length, get_or, set, sym, refl, ap, ◌∙◌, subst, not-suc-le-zero, add-zero, mod-eq_of_lt, arith, length-set, get_or-set_other, get_or-set_same, ltb-false, ltb-true, le-ltb, lt-ltb, ne_eqb, eqb-true}
+use lib.ListN.{get_or-replicate, length-replicate}
+use lib.Seq.{sets, length-sets, set-get_or}
+use borrow.Author.Tests.{eqb-false}
 use Rattle.fields.specs.Search.{seek_last}
 use Rattle.fields.proofs.Search.{last_among, last_is, last_none, last_passes, last_same, last_tells}
 use Rattle.chunk_meaning.specs.Stored.{Row, claimed}

@@ -26,6 +26,7 @@ pub enum HeaderField {
 }
 
 // What is remembered of a chunk stream; no stream has the id 0.
+// Kept: the id 0 and no Option for a row of no stream, since `new` promises it (`nothing` in specs/Header.antt).
 #[derive(Clone, Copy, Debug, PartialEq, Eq, Default)]
 pub struct ChunkHeader {
     pub chunk_stream_id: u32,

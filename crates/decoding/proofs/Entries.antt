@@ -1,11 +1,5 @@
 -- What making a decoder, telling it a size and calling it come to: the first of their tests that holds decides.
-use Prim.Native.Nat.{ℕ, ◌≤◌, ◌<◌}
-use mathlib.Core.Bool.{true}
-use mathlib.Core.List.{List}
-use mathlib.Core.Logic.{◌≢◌, ◌⊎◌}
-use mathlib.Core.Path.{◌≡◌, refl}
-use native.Mathlib.Omega.{arith}
-use lib.ListN.{length}
+use Rattle.std.proofs.Common.{◌≡◌, ℕ, ◌<◌, ◌≤◌, true, ◌≢◌, ◌⊎◌, List, length, refl, arith}
 use Rattle.chunk_header.specs.Limits.{max_size}
 use Rattle.decoding.specs.Decoder.{Decoder}
 use Rattle.decoding.specs.Answer.{refused}

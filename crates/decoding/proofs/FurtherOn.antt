@@ -1,15 +1,6 @@
 -- A further chunk of type 3, whole in the input, is read back: it leaves the decoder as it was but for what the message has.
-use Prim.Native.Nat.{ℕ, suc, ◌+◌, ◌-◌, ◌≤◌, ◌<◌, min}
-use mathlib.Core.Path.{◌≡◌, refl, sym, ap, ◌∙◌}
-use mathlib.Core.Logic.{◌≢◌}
-use mathlib.Core.Bool.{true, false}
-use mathlib.Core.List.{List, ◌∷◌, ◌++◌}
-use native.Mathlib.Numerals.{add-one}
-use native.Mathlib.Omega.{arith}
-use lib.Dec.{eqb, ltb}
-use lib.ListN.{length, take, drop, length-take, length-drop, take-append-drop}
-use lib.Seq.{sets, drop-cons, drop-drop}
-use borrow.Author.Tests.{eq-eqb, lt-ltb, ne_eqb}
+use Rattle.std.proofs.Common.{◌≡◌, ℕ, suc, ◌+◌, ◌-◌, ◌<◌, ◌≤◌, min, true, false, eqb, ltb, ◌≢◌, List, ◌∷◌, ◌++◌, length, take, drop, sym, refl, ap, ◌∙◌, add-one, arith, length-drop, take-append-drop, length-take, drop-cons, drop-drop, lt-ltb, eq-eqb, ne_eqb}
+use lib.Seq.{sets}
 use Rattle.fields.specs.Output.{stored as stored_at}
 use Rattle.fields.proofs.Lists.{stored_fits}
 use Rattle.chunk_header.specs.Layout.{Chunk, absent, chunk_bytes, one, type3}

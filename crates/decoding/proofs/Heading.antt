@@ -1,14 +1,5 @@
 -- A header that is all there does in one turn what its bytes do one by one: they are a chunk's head, which is read back.
-use Prim.Native.Nat.{ℕ, ◌+◌, ◌*◌, ◌%◌, ◌^◌, ◌≤◌, ◌<◌}
-use mathlib.Core.Path.{◌≡◌, refl, ap, ◌∙◌}
-use mathlib.Core.Logic.{◌≢◌}
-use mathlib.Core.Bool.{Bool, true, false, cond, not}
-use mathlib.Core.List.{List, [], ◌++◌, append_assoc}
-use native.Mathlib.Omega.{arith}
-use lib.Dec.{eqb, ltb}
-use lib.ListN.{length, take, drop, get_or, length-drop, length-take, take-append-drop}
-use lib.Seq.{drop-cons, drop-drop}
-use borrow.Author.Tests.{lt-ltb}
+use Rattle.std.proofs.Common.{◌≡◌, ℕ, ◌+◌, ◌*◌, ◌%◌, ◌^◌, ◌<◌, ◌≤◌, Bool, true, false, cond, not, eqb, ltb, ◌≢◌, List, [], ◌++◌, length, get_or, take, drop, refl, ap, ◌∙◌, append_assoc, arith, length-drop, take-append-drop, length-take, drop-cons, drop-drop, lt-ltb}
 use Rattle.fields.specs.Endian.{Bytes, big_endian, gather, little_endian, number, swapped}
 use Rattle.fields.proofs.Endian.{number_lt}
 use Rattle.fields.proofs.Lists.{big_take, bytes_drop, bytes_take}

@@ -1,9 +1,5 @@
 -- Payload bytes that do not end their chunk, one by one, are one copy and a smaller count of bytes that the chunk lacks.
-use Prim.Native.Nat.{ℕ, ◌+◌}
-use mathlib.Core.Path.{◌≡◌, sym, ap, ◌∙◌}
-use mathlib.Core.List.{List, [], append-nil}
-use native.Mathlib.Omega.{arith}
-use lib.ListN.{length}
+use Rattle.std.proofs.Common.{◌≡◌, ℕ, ◌+◌, List, [], length, sym, ap, ◌∙◌, append-nil, arith}
 use lib.Seq.{sets}
 use Rattle.fields.specs.Output.{stored}
 use Rattle.fields.proofs.Lists.{stored_fits}

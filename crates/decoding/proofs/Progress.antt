@@ -1,9 +1,5 @@
 -- What a call uses: at least one byte where it may run, no more than there are, and all of them where it asks for more, since each byte counts one.
-use Prim.Native.Nat.{ℕ, suc, ◌+◌, ◌≤◌, ◌<◌}
-use mathlib.Core.Path.{◌≡◌}
-use mathlib.Core.List.{List, [], ◌∷◌}
-use native.Mathlib.Omega.{arith}
-use lib.ListN.{length}
+use Rattle.std.proofs.Common.{◌≡◌, ℕ, suc, ◌+◌, ◌<◌, ◌≤◌, List, [], ◌∷◌, length, arith}
 use Rattle.decoding.specs.Decoder.{Decoder}
 use Rattle.byte_machine.specs.Reader.{Event, Go, Chunk, Message, Refuse}
 use Rattle.decoding.specs.Answer.{Listed, more, used}

@@ -1,12 +1,5 @@
 -- What holds of every decoder that calls can make, as each of its bytes keeps it: a sound table, and a message that fits, so the guard never answers.
-use Prim.Native.Nat.{ℕ, ◌+◌, ◌<◌}
-use mathlib.Core.Path.{◌≡◌, refl, ap}
-use mathlib.Core.Logic.{◌≢◌}
-use mathlib.Core.Bool.{Bool, true, false, cond, not, ◌||◌}
-use mathlib.Core.List.{List, [], ◌∷◌}
-use native.Mathlib.Omega.{arith}
-use lib.Dec.{eqb, ltb}
-use lib.ListN.{length}
+use Rattle.std.proofs.Common.{◌≡◌, ℕ, ◌+◌, ◌<◌, Bool, true, false, cond, not, ◌||◌, eqb, ltb, ◌≢◌, List, [], ◌∷◌, length, refl, ap, arith}
 use borrow.Author.Tests.{eqb-false}
 use Rattle.fields.specs.Cases.{◌when◌, first}
 use Rattle.decoding.specs.Decoder.{Decoder}

@@ -1,12 +1,5 @@
 -- The bytes of a header are read back: its fields one after the other, each from where the one before it ended.
-use Prim.Native.Nat.{ℕ, ◌+◌, ◌%◌, ◌/◌, ◌^◌, ◌<◌}
-use mathlib.Core.Path.{◌≡◌, refl, ◌∙◌}
-use mathlib.Core.List.{List, ◌++◌, append_assoc}
-use native.Mathlib.Nat.{add-zero}
-use native.Mathlib.Omega.{arith}
-use lib.Dec.{lit<}
-use lib.ListN.{length, length-append}
-use borrow.Author.Tests.{eq-eqb, ne_eqb}
+use Rattle.std.proofs.Common.{◌≡◌, ℕ, ◌+◌, ◌/◌, ◌%◌, ◌^◌, ◌<◌, List, ◌++◌, length, refl, ◌∙◌, append_assoc, add-zero, arith, lit<, length-append, eq-eqb, ne_eqb}
 use Rattle.fields.specs.Endian.{big_endian, little_endian, swapped}
 use Rattle.fields.proofs.Endian.{bytes_big, bytes_little, length_big, length_little, number_big}
 use Rattle.chunk_header.specs.Layout.{Header, type0, type1, type2, type3, header_bytes, Extended, absent, present, extended_bytes, HeaderFits}

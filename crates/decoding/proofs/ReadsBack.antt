@@ -1,15 +1,7 @@
 -- The machine reads back a whole chunk: its basic header names the row, its header settles the row, its payload fills the buffer.
-use Prim.Native.Nat.{ℕ, ◌+◌, ◌-◌, ◌≤◌, ◌<◌}
-use mathlib.Core.Path.{◌≡◌, refl, ap, ◌∙◌}
-use mathlib.Core.Logic.{◌≢◌}
-use mathlib.Core.Bool.{Bool, true, false, cond}
-use mathlib.Core.List.{List, [], ◌++◌, append_assoc}
-use native.Mathlib.Nat.{add-zero}
-use native.Mathlib.Omega.{arith}
-use lib.Dec.{ltb, eqb}
-use lib.ListN.{length, length-append, drop_of_length-le}
+use Rattle.std.proofs.Common.{◌≡◌, ℕ, ◌+◌, ◌-◌, ◌<◌, ◌≤◌, Bool, true, false, cond, eqb, ltb, ◌≢◌, List, [], ◌++◌, length, refl, ap, ◌∙◌, append_assoc, add-zero, arith, length-append, drop_of_length-le, le-ltb, eq-eqb, ne_eqb, eqb-true}
 use lib.Seq.{sets}
-use borrow.Author.Tests.{eq-eqb, ne_eqb, eqb-true, eqb-false, le-ltb}
+use borrow.Author.Tests.{eqb-false}
 use Rattle.chunk_header.specs.declared.ChunkHeaderFormat.TheVariants.{Full}
 use Rattle.chunk_header.specs.Layout.{Chunk, Header, type0, type1, type2, type3, basic_bytes, header_bytes, extended_bytes, chunk_bytes, format, FormFits}
 use Rattle.chunk_header.specs.Table.{field_length, type_of}

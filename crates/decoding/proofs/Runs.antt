@@ -1,16 +1,7 @@
 -- What a run does at its next byte, and over a stretch of payload: bytes one by one are one copy.
-use Prim.Native.Nat.{ℕ, suc, ◌+◌, ◌-◌, ◌≤◌, ◌<◌}
-use mathlib.Core.Path.{◌≡◌, refl, ◌∙◌}
-use mathlib.Core.Logic.{◌≢◌}
-use mathlib.Core.Bool.{Bool, true, false, cond, not, ◌&&◌}
-use mathlib.Core.List.{List, [], ◌∷◌, ◌++◌}
-use native.Mathlib.Omega.{arith}
-use native.Mathlib.Nat.{not-suc-le-zero}
-use native.Mathlib.Numerals.{add-one}
-use lib.Dec.{eqb, leb, ltb}
-use lib.ListN.{length, drop, get_or, set, drop_of_length-le}
-use lib.Seq.{sets, drop-cons}
-use borrow.Author.Tests.{eq-eqb, ne_eqb, eqb-false, le-leb, leb-true, lt-ltb, le-ltb}
+use Rattle.std.proofs.Common.{◌≡◌, ℕ, suc, ◌+◌, ◌-◌, ◌<◌, ◌≤◌, Bool, true, false, cond, not, ◌&&◌, eqb, ltb, leb, ◌≢◌, List, [], ◌∷◌, ◌++◌, length, get_or, drop, set, refl, ◌∙◌, not-suc-le-zero, add-one, arith, drop_of_length-le, drop-cons, le-ltb, lt-ltb, eq-eqb, ne_eqb, le-leb, leb-true}
+use lib.Seq.{sets}
+use borrow.Author.Tests.{eqb-false}
 use Rattle.decoding.specs.Decoder.{Decoder}
 use Rattle.byte_machine.specs.Reader.{Reader, Stepped, in_payload, ended, go, paused, refuse}
 use Rattle.decoding.specs.Answer.{more, refused}

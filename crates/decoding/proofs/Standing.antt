@@ -1,13 +1,6 @@
 -- Where a decoder stands after a byte: a message's last byte leaves it between messages, and any other byte does not.
-use Prim.Native.Nat.{ℕ, ◌+◌, ◌-◌}
-use mathlib.Core.Bool.{true, false, and-false, cond}
-use mathlib.Core.List.{List, [], ◌∷◌}
-use mathlib.Core.Logic.{◌≢◌}
-use mathlib.Core.Path.{◌≡◌, refl, ◌∙◌}
-use native.Mathlib.Omega.{arith}
-use lib.Dec.{eqb, ltb}
-use lib.ListN.{length}
-use borrow.Author.Tests.{ne_eqb}
+use Rattle.std.proofs.Common.{◌≡◌, ℕ, ◌+◌, ◌-◌, true, false, cond, eqb, ltb, ◌≢◌, List, [], ◌∷◌, length, refl, ◌∙◌, arith, ne_eqb}
+use mathlib.Core.Bool.{and-false}
 use Rattle.fields.proofs.Tests.{never}
 use Rattle.byte_machine.specs.Reader.{Event, Go, Chunk, Message, Refuse, Reader, Stage, Csid, CsidSecond, CsidThird, InitialTimestamp, MessageLength, MessageTypeId, MessageStreamId, ExtendedTimestamp, MessagePayload, Stepped, at_start, in_payload}
 use Rattle.byte_machine.specs.Header.{opens}

@@ -1,14 +1,7 @@
 -- What a chunk that is taken leaves: its row is put, its message goes on or is handed out, and the decoder stands between chunks again.
-use Prim.Native.Nat.{ℕ, ◌+◌, ◌≤◌, ◌<◌}
-use mathlib.Core.Bool.{Bool, true, false, cond, not}
-use mathlib.Core.List.{List, [], ◌++◌, append_assoc}
-use mathlib.Core.Logic.{◌≢◌}
-use mathlib.Core.Path.{◌≡◌, refl, ap, ◌∙◌}
-use native.Mathlib.Omega.{arith}
-use lib.Dec.{eqb, ltb}
-use lib.ListN.{length, length-append}
+use Rattle.std.proofs.Common.{◌≡◌, ℕ, ◌+◌, ◌<◌, ◌≤◌, Bool, true, false, cond, not, eqb, ltb, ◌≢◌, List, [], ◌++◌, length, refl, ap, ◌∙◌, append_assoc, arith, length-append, ltb-true, le-ltb}
 use lib.Seq.{sets}
-use borrow.Author.Tests.{eqb-false, le-ltb, ltb-true}
+use borrow.Author.Tests.{eqb-false}
 use Rattle.fields.proofs.Tests.{clash}
 use Rattle.chunk_header.specs.Layout.{Chunk, Form, FormFits, Header, HeaderFits, basic_bytes, chunk_bytes, format, one, three, two, type0, type1, type2, type3}
 use Rattle.chunk_meaning.specs.Stored.{Row}

@@ -1,11 +1,6 @@
 -- Any calls walk over the bytes that came: so where no call can use more, they end where the walk does.
-use Prim.Native.Nat.{ℕ, zero, suc, ◌≤◌, ◌<◌}
-use mathlib.Core.List.{List, [], ◌∷◌, ◌++◌, append_assoc, append-nil, map}
-use mathlib.Core.Logic.{◌≢◌}
-use mathlib.Core.Path.{◌≡◌, refl, sym, ap, subst, ◌∙◌}
-use native.Mathlib.Omega.{arith}
-use lib.ListN.{length, replicate, take, drop, drop_of_length-le, take-append-drop}
-use lib.Seq.{take_all, take-nil}
+use Rattle.std.proofs.Common.{◌≡◌, ℕ, zero, suc, ◌<◌, ◌≤◌, ◌≢◌, List, [], ◌∷◌, ◌++◌, map, length, take, drop, replicate, sym, refl, ap, ◌∙◌, subst, append_assoc, append-nil, arith, take-append-drop, drop_of_length-le, take_all}
+use lib.Seq.{take-nil}
 use Rattle.decoding.specs.Answer.{used}
 use Rattle.decoding.specs.Call.{Outcome}
 use Rattle.decoding.proofs.Entries.{next_by}

@@ -1,10 +1,5 @@
 -- A call that is refused leaves a decoder that is closed, or a short buffer, and then every later call does. So where the end is neither, no call was refused.
-use Prim.Native.Nat.{ℕ, ◌≤◌, ◌<◌}
-use mathlib.Core.List.{List, [], ◌∷◌, ◌++◌}
-use mathlib.Core.Logic.{◌≢◌}
-use mathlib.Core.Path.{◌≡◌, refl, sym, ap, subst, ◌∙◌}
-use native.Mathlib.Omega.{arith}
-use lib.ListN.{length, take, drop}
+use Rattle.std.proofs.Common.{◌≡◌, ℕ, ◌<◌, ◌≤◌, ◌≢◌, List, [], ◌∷◌, ◌++◌, length, take, drop, sym, refl, ap, ◌∙◌, subst, arith}
 use Rattle.decoding.specs.Answer.{Listed, message, more, refused}
 use Rattle.decoding.specs.Call.{Outcome, next, run}
 use Rattle.decoding.proofs.Runs.{next_runs}

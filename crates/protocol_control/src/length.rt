@@ -5,6 +5,7 @@ ghost use Rattle.protocol_control.specs.Body.{body_length, kind_of};
 use crate::{Kind, ProtocolControl};
 
 // 0: no body of these has the type. 4 is that of user control.
+// Kept: a const table by message type, a project rule; no kind is at an entry of 0.
 const BODY_LENGTHS: [usize; 7] = [0, 4, 4, 4, 0, 4, 5];
 
 pub fn body_length(kind: Kind) -> usize

@@ -1,13 +1,6 @@
 -- The refusals of user control bodies: the code is one of nine, and each of them says how many bytes it needs.
-use Prim.Native.Nat.{ℕ, ◌<◌}
-use mathlib.Core.Bool.{Bool, true, false, ◌&&◌, cond, not}
-use mathlib.Core.List.{List, [], ◌∷◌}
-use mathlib.Core.Logic.{◌↔◌, ◌≢◌, ◌⊎◌, inl, inr, ⊎_elim}
-use mathlib.Core.Path.{◌≡◌, refl}
-use native.Mathlib.Omega.{arith}
-use lib.Dec.{eqb, ltb}
-use lib.ListN.{drop, length}
-use borrow.Author.Tests.{eqb-false, eqb-true}
+use Rattle.std.proofs.Common.{◌≡◌, ℕ, ◌<◌, Bool, true, false, cond, not, ◌&&◌, eqb, ltb, ◌≢◌, ◌⊎◌, ◌↔◌, List, [], ◌∷◌, length, drop, refl, inl, inr, ⊎_elim, arith, eqb-true}
+use borrow.Author.Tests.{eqb-false}
 use Rattle.fields.specs.Output.{over}
 use Rattle.fields.specs.Writing.{Outcome, lacks, outcome, refuse, writing, wrote, refused as not_written}
 use Rattle.user_control.specs.declared.UserControlEvent.{UserControlEvent}

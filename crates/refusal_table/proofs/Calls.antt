@@ -1,15 +1,5 @@
 -- The rows of a call: before the byte that is refused more is wanted, so what came is read in one way, and that byte settles the chunk at hand.
-use Prim.Native.Nat.{ℕ, suc, ◌+◌, ◌-◌, ◌≤◌, ◌<◌}
-use mathlib.Core.Bool.{Bool, true, false}
-use mathlib.Core.List.{List, [], ◌∷◌, ◌++◌, append_assoc}
-use mathlib.Core.Logic.{◌≢◌, ◌⊎◌, inl, inr, ⊎_elim}
-use mathlib.Core.Path.{◌≡◌, refl, sym, ap, subst, ◌∙◌}
-use native.Mathlib.Nat.{zero-add}
-use native.Mathlib.Omega.{arith}
-use lib.Dec.{ltb}
-use lib.ListN.{drop, get_or, length, take, take-append-drop}
-use lib.Seq.{drop-cons, take-suc}
-use borrow.Author.Tests.{ltb-false, ltb-true}
+use Rattle.std.proofs.Common.{◌≡◌, ℕ, suc, ◌+◌, ◌-◌, ◌<◌, ◌≤◌, Bool, true, false, ltb, ◌≢◌, ◌⊎◌, List, [], ◌∷◌, ◌++◌, length, get_or, take, drop, sym, refl, ap, ◌∙◌, subst, inl, inr, ⊎_elim, append_assoc, zero-add, arith, take-append-drop, drop-cons, take-suc, ltb-false, ltb-true}
 use Rattle.fields.specs.Endian.{Bytes}
 use Rattle.fields.proofs.Lists.{bytes_take}
 use Rattle.chunk_header.specs.Layout.{Chunk}

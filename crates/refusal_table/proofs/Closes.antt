@@ -1,11 +1,5 @@
 -- What a closing refusal leaves: the bytes before the one that settles it go on as ever, and that one changes the closed number and stores nothing.
-use Prim.Native.Nat.{ℕ, suc, ◌+◌}
-use mathlib.Core.Bool.{Bool, true, false, cond}
-use mathlib.Core.List.{List, [], ◌∷◌}
-use mathlib.Core.Path.{◌≡◌, refl, sym, ap, ◌∙◌}
-use native.Mathlib.Nat.{add-zero}
-use native.Mathlib.Omega.{arith}
-use lib.ListN.{set, take}
+use Rattle.std.proofs.Common.{◌≡◌, ℕ, suc, ◌+◌, Bool, true, false, cond, List, [], ◌∷◌, take, set, sym, refl, ap, ◌∙◌, add-zero, arith}
 use Rattle.decoding.specs.Decoder.{Decoder}
 use Rattle.byte_machine.specs.Reader.{Event, Go, Chunk, Message, Refuse, Stepped, in_payload, refuse}
 use Rattle.decoding.specs.Answer.{more, refused}

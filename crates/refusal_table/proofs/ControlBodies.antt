@@ -1,31 +1,13 @@
 -- The refusals of protocol control bodies: reading asks first whether the body is short, writing first for the limits of its numbers.
-use Prim.Native.Nat.{ℕ, ◌<◌}
-use mathlib.Core.Bool.{false, cond}
-use mathlib.Core.List.{List, [], ◌∷◌}
-use mathlib.Core.Logic.{◌↔◌, ◌≢◌}
-use mathlib.Core.Path.{◌≡◌, refl}
-use native.Mathlib.Omega.{arith}
-use lib.ListN.{length}
+use Rattle.std.proofs.Common.{◌≡◌, ℕ, ◌<◌, false, cond, ◌≢◌, ◌↔◌, List, [], ◌∷◌, length, refl, arith}
 use Rattle.chunk_header.specs.Limits.{max_size}
 use Rattle.fields.specs.Output.{over}
 use Rattle.fields.specs.Writing.{lacks, outcome, writing, wrote, refused as not_written}
 use Rattle.fields.proofs.Tests.{Decides, clash, equal, less, one_of}
 use Rattle.protocol_control.specs.declared.Kind.{Kind}
-use Rattle.protocol_control.specs.declared.Kind.TheVariants.{
-  SetChunkSize as set_chunk_size,
-  Abort as abort,
-  Acknowledgement as acknowledgement,
-  WindowAcknowledgement as window_acknowledgement,
-  SetPeerBandwidth as set_peer_bandwidth,
-}
+use Rattle.protocol_control.specs.declared.Kind.TheVariants.{SetChunkSize as set_chunk_size, Abort as abort, Acknowledgement as acknowledgement, WindowAcknowledgement as window_acknowledgement, SetPeerBandwidth as set_peer_bandwidth}
 use Rattle.protocol_control.specs.declared.ProtocolControl.{ProtocolControl}
-use Rattle.protocol_control.specs.declared.ProtocolControl.TheVariants.{
-  SetChunkSize,
-  Abort,
-  Acknowledgement,
-  WindowAcknowledgement,
-  SetPeerBandwidth,
-}
+use Rattle.protocol_control.specs.declared.ProtocolControl.TheVariants.{SetChunkSize, Abort, Acknowledgement, WindowAcknowledgement, SetPeerBandwidth}
 use Rattle.protocol_control.specs.Answer.{Answer, listed, refused}
 use Rattle.protocol_control.specs.Body.{body}
 use Rattle.protocol_control.specs.Limits.{outside}

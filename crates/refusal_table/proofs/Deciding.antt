@@ -1,11 +1,5 @@
 -- A test decides a condition, and the first test that holds answers: so a number is given exactly when its condition holds and no earlier one does.
-use Prim.Native.Nat.{ℕ}
-use mathlib.Core.Bool.{Bool, true, false, cond}
-use mathlib.Core.List.{List, [], ◌∷◌}
-use mathlib.Core.Logic.{◌↔◌, ◌⊎◌, inl, inr, ⊎_elim}
-use mathlib.Core.Path.{◌≡◌, refl}
-use native.Mathlib.Omega.{arith}
-use lib.Dec.{eqb}
+use Rattle.std.proofs.Common.{◌≡◌, ℕ, Bool, true, false, cond, eqb, ◌⊎◌, ◌↔◌, List, [], ◌∷◌, refl, inl, inr, ⊎_elim, arith}
 use borrow.Author.Tests.{eqb-false}
 use Rattle.fields.specs.Cases.{among}
 use Rattle.fields.proofs.Tests.{Decides, equal, one_of}

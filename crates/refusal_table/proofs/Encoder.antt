@@ -1,12 +1,5 @@
 -- The encoder's refusals: each is answered by a test of its own, in the order 1, 2, 5 or 3, 4, 5, and hands everything back.
-use Prim.Native.Nat.{ℕ, ◌<◌}
-use mathlib.Core.Bool.{cond}
-use mathlib.Core.List.{List, [], ◌∷◌}
-use mathlib.Core.Logic.{◌↔◌, ◌≢◌}
-use mathlib.Core.Path.{◌≡◌, refl}
-use native.Mathlib.Omega.{arith}
-use lib.Dec.{eqb, ltb}
-use lib.ListN.{length}
+use Rattle.std.proofs.Common.{◌≡◌, ℕ, ◌<◌, cond, eqb, ltb, ◌≢◌, ◌↔◌, List, [], ◌∷◌, length, refl, arith}
 use Rattle.serializer.specs.declared.ChunkSerializer.{ChunkSerializer}
 use Rattle.serializer.specs.declared.format.Message.{Message}
 use Rattle.serializer.specs.Answer.{Answer, refused, wrote}

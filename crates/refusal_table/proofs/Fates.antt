@@ -1,13 +1,6 @@
 -- What becomes of a chunk that comes to a decoder between chunks: it is refused at the end of a part of it, or it is not and its bytes are used.
-use Prim.Native.Nat.{ℕ, ◌+◌}
-use mathlib.Core.Bool.{Bool, true, false}
-use mathlib.Core.List.{List, [], ◌++◌, append_assoc}
-use mathlib.Core.Logic.{◌≢◌}
-use mathlib.Core.Path.{◌≡◌, refl, sym, ap, ◌∙◌}
-use native.Mathlib.Omega.{arith}
-use lib.Dec.{eqb}
-use lib.ListN.{length, length-append}
-use borrow.Author.Tests.{eqb-true, eqb-false}
+use Rattle.std.proofs.Common.{◌≡◌, ℕ, ◌+◌, Bool, true, false, eqb, ◌≢◌, List, [], ◌++◌, length, sym, refl, ap, ◌∙◌, append_assoc, arith, length-append, eqb-true}
+use borrow.Author.Tests.{eqb-false}
 use Rattle.chunk_header.specs.Layout.{Chunk, chunk_bytes, extended_bytes, header_bytes}
 use Rattle.decoding.specs.Decoder.{Decoder}
 use Rattle.byte_machine.specs.Reader.{Csid}

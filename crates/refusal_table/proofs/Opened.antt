@@ -1,9 +1,6 @@
 -- What has come to an open decoder: no answer depends on what the lent buffers hold, so it is as one that was lent the same buffer untouched, and its bytes are chunks.
-use Prim.Native.Nat.{ℕ, ◌+◌, ◌≤◌}
-use mathlib.Core.List.{List, [], ◌∷◌, ◌++◌}
-use mathlib.Core.Path.{◌≡◌, refl, sym, ap, subst, ◌∙◌}
-use native.Mathlib.Omega.{arith}
-use lib.ListN.{length, length-replicate, replicate, take}
+use Rattle.std.proofs.Common.{◌≡◌, ℕ, ◌+◌, ◌≤◌, List, [], ◌∷◌, ◌++◌, length, take, replicate, sym, refl, ap, ◌∙◌, subst, arith}
+use lib.ListN.{length-replicate}
 use Rattle.chunk_header.specs.Limits.{initial_size}
 use Rattle.decoding.specs.Decoder.{Decoder}
 use Rattle.byte_machine.specs.Reader.{Event, Go, Chunk, Message, Refuse}

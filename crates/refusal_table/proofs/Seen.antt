@@ -1,14 +1,6 @@
 -- What a decoder's tests say of the chunks that have come to it: they decide whether a stream has a row, 64 rows are used, a message is unfinished.
-use Prim.Native.Nat.{ℕ, ◌≤◌, ◌<◌}
-use mathlib.Core.Bool.{Bool, true, false, cond, not}
-use mathlib.Core.List.{List, [], ◌∷◌}
-use mathlib.Core.Logic.{◌↔◌, ◌≢◌}
+use Rattle.std.proofs.Common.{◌≡◌, ℕ, ◌<◌, ◌≤◌, Bool, true, false, cond, not, eqb, ltb, ◌≢◌, ◌↔◌, List, [], ◌∷◌, length, sym, refl, ap, ◌∙◌, arith, eq-eqb, ne_eqb}
 use mathlib.Core.Option.{none, some, map, some-ne-none}
-use mathlib.Core.Path.{◌≡◌, refl, sym, ap, ◌∙◌}
-use native.Mathlib.Omega.{arith}
-use lib.Dec.{eqb, ltb}
-use lib.ListN.{length}
-use borrow.Author.Tests.{eq-eqb, ne_eqb}
 use Rattle.fields.proofs.Tests.{Decides, equal, in_words, less, not_decides}
 use Rattle.byte_machine.specs.Rows.{find, free, row_at, row_count}
 use Rattle.byte_machine.proofs.Putting.{free_after, free_none}

@@ -1,9 +1,5 @@
 -- Where each of 9 to 14 is settled, and when: at the end of a chunk's basic header or of its header, in the order of the numbers.
-use Prim.Native.Nat.{ℕ}
-use mathlib.Core.List.{List, [], ◌∷◌}
-use mathlib.Core.Logic.{◌↔◌, ◌≢◌, ◌⊎◌, inl, inr, ⊎_elim}
-use mathlib.Core.Path.{◌≡◌, refl, sym}
-use native.Mathlib.Omega.{arith}
+use Rattle.std.proofs.Common.{◌≡◌, ℕ, ◌≢◌, ◌⊎◌, ◌↔◌, List, [], ◌∷◌, sym, refl, inl, inr, ⊎_elim, arith}
 use Rattle.chunk_header.specs.Layout.{Chunk, Header, type0, type1, type2, type3, format}
 use Rattle.decoding.specs.Decoder.{Decoder}
 use Rattle.decoding.specs.Chunk.{basic_refused, header_refused}

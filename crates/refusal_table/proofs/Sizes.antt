@@ -1,12 +1,5 @@
 -- Making a decoder and telling it a size: 6, and 3, 4, 8 of an open decoder, which stands between messages where neither a part of a chunk nor of a message has come.
-use Prim.Native.Nat.{ℕ, ◌<◌}
-use mathlib.Core.Bool.{true, false, not}
-use mathlib.Core.List.{List, [], ◌∷◌}
-use mathlib.Core.Logic.{◌≢◌, ◌⊎◌, inl, inr, ⊎_elim}
-use mathlib.Core.Path.{◌≡◌, refl, sym, ap, ◌∙◌}
-use native.Mathlib.Omega.{arith}
-use lib.ListN.{length}
-use borrow.Author.Tests.{eq-eqb, ne_eqb}
+use Rattle.std.proofs.Common.{◌≡◌, ℕ, ◌<◌, true, false, not, ◌≢◌, ◌⊎◌, List, [], ◌∷◌, length, sym, refl, ap, ◌∙◌, inl, inr, ⊎_elim, arith, eq-eqb, ne_eqb}
 use Rattle.decoding.specs.Decoder.{Decoder}
 use Rattle.decoding.specs.Told.{Outcome, between, fresh, made, outcome, refused, taken, told}
 use Rattle.chunk_header.specs.Limits.{max_size}

@@ -1,6 +1,5 @@
 -- Document 01's table, in its order: each row is proved in the file of its entry point.
-use mathlib.Core.Logic.{inl, inr, ⊎_elim}
-use native.Mathlib.Omega.{arith}
+use Rattle.std.proofs.Common.{inl, inr, ⊎_elim, arith}
 use Rattle.decoding.proofs.Runs.{next_closed}
 use Rattle.refusal_table.specs.Table.{ClosedStays, NoOther, RefusalTable}
 use Rattle.refusal_table.proofs.Bodies.{body_15, body_16, body_no_other, write_5, write_no_other}

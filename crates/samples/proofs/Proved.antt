@@ -1,6 +1,5 @@
 -- The one statement about the whole table, by one computation of the definitions; and that Adobe's chunks fit.
-use mathlib.Core.Path.{refl}
-use native.Mathlib.Omega.{arith}
+use Rattle.std.proofs.Common.{refl, arith}
 use Rattle.fields.specs.Endian.{big_endian, little_endian, gather}
 use Rattle.chunk_header.specs.Basic.{csid}
 use Rattle.chunk_header.specs.Layout.{chunk_bytes}

@@ -1,13 +1,7 @@
 -- Bytes after which more is wanted begin a chunk that fits its stream: where its basic header is to be refused, that is not whole yet.
-use Prim.Native.Nat.{ℕ, ◌+◌, ◌-◌, min}
-use mathlib.Core.Bool.{Bool, true, false}
-use mathlib.Core.List.{List, [], ◌∷◌, ◌++◌, append_assoc}
-use mathlib.Core.Logic.{◌≢◌}
-use mathlib.Core.Path.{◌≡◌, refl, sym, ap, ◌∙◌}
-use native.Mathlib.Omega.{arith}
-use lib.Dec.{eqb}
-use lib.ListN.{length, length-append, length-replicate, replicate}
-use borrow.Author.Tests.{eqb-false, eqb-true}
+use Rattle.std.proofs.Common.{◌≡◌, ℕ, ◌+◌, ◌-◌, min, Bool, true, false, eqb, ◌≢◌, List, [], ◌∷◌, ◌++◌, length, replicate, sym, refl, ap, ◌∙◌, append_assoc, arith, length-append, eqb-true}
+use lib.ListN.{length-replicate}
+use borrow.Author.Tests.{eqb-false}
 use Rattle.chunk_header.specs.Layout.{Chunk, chunk_bytes}
 use Rattle.decoding.specs.Decoder.{Decoder}
 use Rattle.decoding.specs.Answer.{more}

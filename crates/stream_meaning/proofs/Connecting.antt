@@ -1,10 +1,5 @@
 -- Items one after the other: their messages, streams, bytes and size are those of the first and then those of the others; and each stream is its own chunks'.
-use Prim.Native.Nat.{ℕ}
-use mathlib.Core.Bool.{Bool, true, false, cond}
-use mathlib.Core.List.{List, [], ◌∷◌, ◌++◌, append_assoc}
-use mathlib.Core.Path.{◌≡◌, refl, sym, ap, ◌∙◌}
-use lib.Dec.{eqb}
-use borrow.Author.Tests.{eqb-true}
+use Rattle.std.proofs.Common.{◌≡◌, ℕ, Bool, true, false, cond, eqb, List, [], ◌∷◌, ◌++◌, sym, refl, ap, ◌∙◌, append_assoc, eqb-true}
 use Rattle.chunk_header.specs.Layout.{chunk_bytes}
 use Rattle.stream_meaning.specs.Connection.{FitFrom, Item, alone, chunk, listed, means_from, opened_from, own, size, size_from, streams_from, taken}
 use Rattle.stream_meaning.specs.Feeding.{Sign, byte, new_size, signs, signs_of}

@@ -1,11 +1,6 @@
 -- However its bytes are cut, a run of calls that refuses nothing hands out what its bytes mean.
-use Prim.Native.Nat.{ℕ, ◌+◌}
-use mathlib.Core.Bool.{true, false}
-use mathlib.Core.List.{List, [], ◌∷◌, ◌++◌, append_assoc, append-nil}
-use mathlib.Core.Path.{◌≡◌, refl, sym, ap, subst, ◌∙◌}
-use native.Mathlib.Omega.{arith}
-use lib.ListN.{length, take}
-use lib.Seq.{take_all, take-append-add}
+use Rattle.std.proofs.Common.{◌≡◌, ℕ, ◌+◌, true, false, List, [], ◌∷◌, ◌++◌, length, take, sym, refl, ap, ◌∙◌, subst, append_assoc, append-nil, arith, take_all}
+use lib.Seq.{take-append-add}
 use Rattle.fields.specs.Endian.{Bytes}
 use Rattle.fields.proofs.Tests.{clash}
 use Rattle.chunk_header.specs.Limits.{initial_size}

@@ -1,10 +1,6 @@
 -- What is stored of a stream is what its chunks said last: each header replaces the fields that it has, and leaves the others.
-use Prim.Native.Nat.{ℕ}
-use mathlib.Core.List.{List, [], ◌∷◌}
-use mathlib.Core.Logic.{◌≢◌}
+use Rattle.std.proofs.Common.{◌≡◌, ℕ, ◌≢◌, List, [], ◌∷◌, refl, ap, ◌∙◌, arith}
 use mathlib.Core.Option.{Option, none, get_or}
-use mathlib.Core.Path.{◌≡◌, refl, ap, ◌∙◌}
-use native.Mathlib.Omega.{arith}
 use Rattle.chunk_header.specs.Layout.{Chunk, Header, type0, type1, type2, type3}
 use Rattle.stream_meaning.specs.Connection.{alone, field_in, last_or, length_in, own, quiet, stream_in, type_in}
 use Rattle.stream_meaning.specs.Said.{SaidLast, StoresLast, said_on}

@@ -1,15 +1,7 @@
 -- A decoder's view of a stream says what the decoder's own definitions say of a chunk of it: what was said before, what it says, its time, and how much has come.
-use Prim.Native.Nat.{ℕ, ◌+◌, ◌≤◌}
-use mathlib.Core.Bool.{Bool, true, false}
-use mathlib.Core.List.{List}
-use mathlib.Core.Logic.{◌≢◌}
+use Rattle.std.proofs.Common.{◌≡◌, ℕ, ◌+◌, ◌≤◌, Bool, true, false, eqb, ltb, ◌≢◌, List, length, take, sym, refl, ap, ◌∙◌, arith, length-append, length-take-le, eq-eqb, ne_eqb, eqb-true}
 use mathlib.Core.Option.{none, some}
-use mathlib.Core.Path.{◌≡◌, refl, sym, ap, ◌∙◌}
-use native.Mathlib.Omega.{arith}
-use lib.Dec.{eqb, ltb}
-use lib.ListN.{length, length-append, take}
-use lib.Seq.{length-take-le}
-use borrow.Author.Tests.{eq-eqb, eqb-false, eqb-true, ne_eqb}
+use borrow.Author.Tests.{eqb-false}
 use Rattle.chunk_header.specs.Layout.{Chunk, Extended, FormFits, Header, absent, present, type0, type1, type2, type3}
 use Rattle.chunk_meaning.specs.Stored.{Row}
 use Rattle.chunk_meaning.specs.Meaning.{first_time}

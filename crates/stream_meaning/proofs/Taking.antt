@@ -1,16 +1,8 @@
 -- A chunk that is not refused does to a decoder's view what it does to its stream: what a taken chunk leaves, seen through `viewed`.
-use Prim.Native.Nat.{ℕ, ◌≤◌}
-use mathlib.Core.Bool.{Bool, true, false, cond}
-use mathlib.Core.List.{List, [], ◌∷◌, ◌++◌, append-nil}
-use mathlib.Core.Logic.{◌≢◌}
+use Rattle.std.proofs.Common.{◌≡◌, ℕ, ◌≤◌, Bool, true, false, cond, eqb, ◌≢◌, List, [], ◌∷◌, ◌++◌, length, take, sym, refl, ap, ◌∙◌, append-nil, zero-add, arith, ltb-false, eq-eqb, ne_eqb, eqb-true}
 use mathlib.Core.Option.{Option, some, map}
-use mathlib.Core.Path.{◌≡◌, refl, sym, ap, ◌∙◌}
-use native.Mathlib.Nat.{zero-add}
-use native.Mathlib.Omega.{arith}
-use lib.Dec.{eqb}
-use lib.ListN.{length, take}
 use lib.Seq.{length-sets, sets}
-use borrow.Author.Tests.{eq-eqb, eqb-false, eqb-true, ltb-false, ne_eqb}
+use borrow.Author.Tests.{eqb-false}
 use Rattle.fields.specs.Cases.{among}
 use Rattle.fields.proofs.Lists.{sets_front}
 use Rattle.chunk_header.specs.Layout.{Chunk, chunk_bytes}

@@ -1,12 +1,6 @@
 -- No chunk's bytes begin those of another that can come where it can: each part of a chunk has its width from the parts before it and the stream.
-use Prim.Native.Nat.{ℕ, zero, suc, ◌+◌, ◌-◌, ◌*◌, ◌/◌, ◌%◌, ◌^◌, ◌<◌, min}
-use mathlib.Core.List.{List, [], ◌∷◌, ◌++◌, append_assoc}
+use Rattle.std.proofs.Common.{◌≡◌, ℕ, zero, suc, ◌+◌, ◌-◌, ◌*◌, ◌/◌, ◌%◌, ◌^◌, ◌<◌, min, List, [], ◌∷◌, ◌++◌, length, sym, refl, ap, ◌∙◌, subst, append_assoc, div-lt_iff_lt-mul, pow-suc, arith, lit<}
 use mathlib.Core.Option.{get_or}
-use mathlib.Core.Path.{◌≡◌, refl, sym, ap, subst, ◌∙◌}
-use native.Mathlib.Nat.{pow-suc, div-lt_iff_lt-mul}
-use native.Mathlib.Omega.{arith}
-use lib.Dec.{lit<}
-use lib.ListN.{length}
 use Rattle.fields.specs.Endian.{big_endian, little_endian, number}
 use Rattle.fields.proofs.Endian.{length_big, number_big}
 use Rattle.chunk_header.specs.Layout.{Chunk, Extended, Form, FormFits, Header, HeaderFits, absent, basic_bytes, chunk_bytes, extended_bytes, format, header_bytes, one, present, three, two, type0, type1, type2, type3}

@@ -1,9 +1,5 @@
 -- Bytes that are chunks in two ways are the same chunks: the first of each is the same, and so are those after it.
-use Prim.Native.Nat.{ℕ, ◌<◌}
-use mathlib.Core.List.{List, [], ◌∷◌, ◌++◌, append_assoc, append-nil}
-use mathlib.Core.Path.{◌≡◌, refl, sym, ap, subst, ◌∙◌}
-use native.Mathlib.Omega.{arith}
-use lib.ListN.{length}
+use Rattle.std.proofs.Common.{◌≡◌, ℕ, ◌<◌, List, [], ◌∷◌, ◌++◌, length, sym, refl, ap, ◌∙◌, subst, append_assoc, append-nil, arith}
 use Rattle.chunk_header.specs.Layout.{Chunk, absent, chunk_bytes, one, type0}
 use Rattle.chunk_header.specs.Limits.{initial_size}
 use Rattle.decoding.proofs.Taken.{chunk_some}

@@ -1,11 +1,6 @@
 -- Bytes that come to a decoder between chunks are whole chunks, each of which its stream takes, and then a part of one; a call stops where a message ends.
-use Prim.Native.Nat.{ℕ, zero, suc, ◌+◌, ◌≤◌, ◌<◌}
-use mathlib.Core.List.{List, [], ◌∷◌, ◌++◌, append_assoc, append-nil}
-use mathlib.Core.Logic.{◌≢◌}
+use Rattle.std.proofs.Common.{◌≡◌, ℕ, zero, suc, ◌+◌, ◌<◌, ◌≤◌, ◌≢◌, List, [], ◌∷◌, ◌++◌, length, take, sym, refl, ap, ◌∙◌, subst, append_assoc, append-nil, arith, length-append}
 use mathlib.Core.Option.{Option, none, some}
-use mathlib.Core.Path.{◌≡◌, refl, sym, ap, subst, ◌∙◌}
-use native.Mathlib.Omega.{arith}
-use lib.ListN.{length, length-append, take}
 use lib.Seq.{drop-append_seam, take-append-add, take-append_seam}
 use Rattle.fields.specs.Endian.{Bytes}
 use Rattle.fields.proofs.Lists.{bytes_drop}

@@ -1,14 +1,7 @@
 -- A decoder between chunks, to which items have come whole: it sees what they make of each stream, and has handed out what they mean.
-use Prim.Native.Nat.{ℕ, ◌≤◌}
-use mathlib.Core.Bool.{Bool, true, false, cond}
-use mathlib.Core.List.{List, [], ◌∷◌, ◌++◌, append-nil}
-use mathlib.Core.Logic.{◌≢◌}
+use Rattle.std.proofs.Common.{◌≡◌, ℕ, ◌≤◌, Bool, true, false, cond, eqb, ◌≢◌, List, [], ◌∷◌, ◌++◌, length, sym, refl, ap, ◌∙◌, subst, append-nil, arith, ne_eqb, eqb-true}
 use mathlib.Core.Option.{Option, none, some}
-use mathlib.Core.Path.{◌≡◌, refl, sym, ap, subst, ◌∙◌}
-use native.Mathlib.Omega.{arith}
-use lib.Dec.{eqb}
-use lib.ListN.{length}
-use borrow.Author.Tests.{eqb-false, eqb-true, ne_eqb}
+use borrow.Author.Tests.{eqb-false}
 use Rattle.chunk_header.specs.Layout.{Chunk, chunk_bytes}
 use Rattle.chunk_header.specs.Limits.{initial_size}
 use Rattle.byte_machine.proofs.Putting.{Lists, lists_empty}

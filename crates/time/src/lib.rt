@@ -30,7 +30,7 @@ impl RtmpTimestamp {
         RtmpTimestamp { value }
     }
 
-    // Kept: `set`, `add`, `subtract` and `compare` take the timestamp by value, and no operator traits stand beside them: a project rule.
+    // Kept: methods by value that hand back a timestamp, and no operator traits beside them: a project rule.
     pub fn set(self, value: u32) -> Self
         ensures { result.value ≡ value }
     {

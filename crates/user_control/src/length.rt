@@ -2,7 +2,7 @@
 ghost use Rattle.std.specs.Prelude.{◌≡◌};
 ghost use Rattle.user_control.specs.Reading.{length_of};
 
-// 0: no event has the code.
+// Kept: 0 where no event has the code, since body lengths are a const table by a project rule; `body_length` answers an Option.
 const BODY_LENGTHS: [usize; 33] = [
     6, 6, 6, 10, 6, 0, 6, 6, 0, 0, 0, 0, 0, 0, 0, 0, 0, 0, 0, 0, 0, 0, 0, 0, 0, 0, 0, 0, 0, 0, 0,
     6, 6,
