@@ -1,4 +1,5 @@
 pub mod Answer
+pub mod Cursor
 pub mod Header
 pub mod Message
 pub mod Packet

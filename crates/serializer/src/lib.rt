@@ -10,6 +10,7 @@ ghost use Rattle.serializer.specs.Remembered.{fresh, packet_of, previous};
 ghost use Rattle.serializer.specs.Serialize.{needed, outcome_of, sent, serialized, size_changed, outcome};
 ghost use Rattle.chunk_header.specs.Limits.{max_length};
 
+mod cursor;
 mod error;
 mod format;
 mod length;

@@ -1,5 +1,5 @@
 -- Heads of at most 16 bytes, one for each chunk, and the payload once: nothing overflows, and the sum is the packet's length.
-use Rattle.std.proofs.Common.{◌≡◌, ℕ, ◌-◌, ◌*◌, ◌/◌, ◌≤◌, ◌<◌, [], length, sym, ap, ◌∙◌, arith}
+use Rattle.std.proofs.Common.{◌≡◌, ℕ, ◌-◌, ◌*◌, ◌/◌, ◌≤◌, ◌<◌, [], length, sym, ap, arith}
 use native.Mathlib.Nat.{mul-le-mul, div-le_self}
 use Rattle.chunk_header.specs.declared.ChunkHeader.{ChunkHeader}
 use Rattle.chunk_header.specs.declared.ChunkHeaderFormat.{ChunkHeaderFormat}

@@ -1,10 +1,10 @@
 -- Each chunk is stored, and what is left is stored after it.
-use Rattle.std.proofs.Common.{◌≡◌, ℕ, ◌+◌, ◌≤◌, List, [], ◌++◌, length, refl, sym, ap, ◌∙◌, arith, length-append, take-append-drop}
+use Rattle.std.proofs.Common.{◌≡◌, ℕ, ◌+◌, ◌≤◌, List, [], ◌++◌, length, refl, sym, ap, ◌∙◌, arith, length-append, take-append-drop, rules}
 use Rattle.std.specs.Slice.Iter.{chunks_rest}
 use Rattle.std.proofs.lemmas.List.{nil_from_length}
 use Rattle.chunk_header.specs.declared.ChunkHeaderFormat.{ChunkHeaderFormat}
 use Rattle.chunk_header.specs.Layout.{chunk_bytes}
-use Rattle.fields.specs.Output.{Adds, stored}
+use Rattle.fields.specs.Output.{Adds, over, stored}
 use Rattle.fields.proofs.Lists.{stored_append, stored_nil, stored_over}
 use Rattle.serializer.specs.declared.plan.Plan.{Plan}
 use Rattle.serializer.specs.Packet.{chunk, chunked}
@@ -30,8 +30,8 @@ turn all first left out {o} {at} {next} e h a =
     let rest : next + length left ≤ length out = omega (arith, a.place, ap length e, length-append first left) in
     (rw (a.left, e) (stored_append out first left at next a.place rest), rest)
 
-pub add_chunk-at-requires : goal.add_chunk-at-requires
-add_chunk-at-requires c =
+pub chunk-requires : goal.chunk-requires
+chunk-requires c =
     let p = c.args.self.now in
     let s = c.split_at in
     let cut : p.payload.now ≡ s.result.0.now ++ s.result.1.now = rw (s.ensures.front, s.ensures.back) (sym (take-append-drop c.min.result p.payload.now)) in
@@ -44,21 +44,21 @@ loop-piece-init c =
     let s = c.split_at in
     let cut : p.payload.now ≡ s.result.0.now ++ s.result.1.now = rw (s.ensures.front, s.ensures.back) (sym (take-append-drop c.min.result p.payload.now)) in
     let piece = chunked_piece p.first.format p.later p.first.header p.size p.payload.now s.result.0.now s.result.1.now (omega arith) (omega arith) cut (omega arith) in
-    let next = turn (bytes_of p) (now p p.first.format s.result.0.now) (later p s.result.1.now) c.args.output.now piece (omega arith) c.add_chunk-at.ensures in
+    let next = turn (bytes_of p) (now p p.first.format s.result.0.now) (later p s.result.1.now) c.args.output.now piece (omega arith) c.chunk.ensures.adds in
     record {
       left = rw (c.into_iter-piece-iterator.ensures.into_iter_gives, c.chunks-piece-items.ensures.rest) (next.0 ∙ stored_over [] (bytes_of p) c.args.output.now 0 refl (omega arith));
-      fits = rw (c.into_iter-piece-iterator.ensures.into_iter_gives, c.chunks-piece-items.ensures.rest, c.add_chunk-at.auto.output) next.1;
-      whole = c.add_chunk-at.auto.output;
+      fits = rw (c.into_iter-piece-iterator.ensures.into_iter_gives, c.chunks-piece-items.ensures.rest, c.chunk.ensures.whole) next.1;
+      same = refl;
       size = rw (c.into_iter-piece-iterator.ensures.into_iter_gives) c.chunks-piece-items.ensures.size;
     }
 
-pub add_chunk-at-requires-in-loop-piece : goal.add_chunk-at-requires-in-loop-piece
-add_chunk-at-requires-in-loop-piece c =
+pub chunk-requires-in-loop-piece : goal.chunk-requires-in-loop-piece
+chunk-requires-in-loop-piece c =
     let p = c.args.self.now in
     let l = c.loop-piece in
     let s = c.in-Some.ensures.steps in
     let piece = chunked_piece p.later p.later p.first.header p.size (chunks_rest l.piece-iterator) c.in-Some.piece.now (chunks_rest c.next.new.self) (omega arith) (omega (arith, s)) s.1.0 (rw l.invariant.size at s.1.1) in
-    (p.stream, fit (later p (chunks_rest l.piece-iterator)) (now p p.later c.in-Some.piece.now) (later p (chunks_rest c.next.new.self)) l.output l.at piece l.invariant.fits)
+    (p.stream, fit (later p (chunks_rest l.piece-iterator)) (now p p.later c.in-Some.piece.now) (later p (chunks_rest c.next.new.self)) l.cursor.output.now l.cursor.at piece l.invariant.fits)
 
 pub loop-piece-preserved : goal.loop-piece-preserved
 loop-piece-preserved c =
@@ -66,11 +66,11 @@ loop-piece-preserved c =
     let l = c.loop-piece in
     let s = c.in-Some.ensures.steps in
     let piece = chunked_piece p.later p.later p.first.header p.size (chunks_rest l.piece-iterator) c.in-Some.piece.now (chunks_rest c.next.new.self) (omega arith) (omega (arith, s)) s.1.0 (rw l.invariant.size at s.1.1) in
-    let next = turn (later p (chunks_rest l.piece-iterator)) (now p p.later c.in-Some.piece.now) (later p (chunks_rest c.next.new.self)) l.output piece l.invariant.fits c.add_chunk-at-in-loop-piece.ensures in
+    let next = turn (later p (chunks_rest l.piece-iterator)) (now p p.later c.in-Some.piece.now) (later p (chunks_rest c.next.new.self)) l.cursor.output.now piece l.invariant.fits c.chunk-in-loop-piece.ensures.adds in
     record {
       left = next.0 ∙ l.invariant.left;
-      fits = rw c.add_chunk-at-in-loop-piece.auto.output next.1;
-      whole = c.add_chunk-at-in-loop-piece.auto.output ∙ l.invariant.whole;
+      fits = rw c.chunk-in-loop-piece.ensures.whole next.1;
+      same = c.chunk-in-loop-piece.ensures.same ∙ l.invariant.same;
       size = s.0 ∙ l.invariant.size;
     }
 
@@ -79,4 +79,8 @@ returns c =
     let p = c.args.self.now in
     let l = c.loop-piece in
     let none : chunks_rest l.piece-iterator ≡ [] = nil_from_length (chunks_rest l.piece-iterator) c.in-None.ensures.steps.1.0 in
-    sym (stored_nil l.output l.at) ∙ ap (stored l.output l.at) (sym (ap (later p) none ∙ chunked_none p.later p.later p.first.header p.size p.cut)) ∙ l.invariant.left
+    let done : l.cursor.output.now ≡ over (bytes_of p) c.args.output.now =
+    sym (stored_nil l.cursor.output.now l.cursor.at) ∙ ap (stored l.cursor.output.now l.cursor.at) (sym (ap (later p) none ∙ chunked_none p.later p.later p.first.header p.size p.cut)) ∙ l.invariant.left
+    in
+    let same = l.invariant.same ∙ c.chunk.ensures.same in
+    search rules

@@ -8,8 +8,8 @@ use Rattle.serializer.proofs.plan.Plan.write.Given as goal
 
 abbrev pub invariant-loop-piece : goal.invariant-loop-piece
 invariant-loop-piece l = record {
-  left : stored l.output l.at (chunked l.self.later l.self.later l.self.first.header l.self.size (chunks_rest l.piece-iterator)) ≡ over (bytes_of l.self) l.fn.output;
-  fits : l.at + length (chunked l.self.later l.self.later l.self.first.header l.self.size (chunks_rest l.piece-iterator)) ≤ length l.output;
-  whole : length l.output ≡ length l.fn.output;
+  left : stored l.cursor.output.now l.cursor.at (chunked l.self.later l.self.later l.self.first.header l.self.size (chunks_rest l.piece-iterator)) ≡ over (bytes_of l.self) l.fn.output;
+  fits : l.cursor.at + length (chunked l.self.later l.self.later l.self.first.header l.self.size (chunks_rest l.piece-iterator)) ≤ length l.cursor.output.now;
+  same : l.cursor.output.ghost_name ≡ l.initial.cursor.output.ghost_name;
   size : chunks_size l.piece-iterator ≡ l.self.size;
 }

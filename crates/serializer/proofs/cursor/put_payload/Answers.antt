@@ -1,13 +1,9 @@
 -- The first bytes, and the others straight after them, are the payload.
-use Prim.Native.Nat.{ℕ, ◌+◌, ◌-◌, ◌%◌, ◌≤◌}
-use mathlib.Core.Path.{◌≡◌, ap, ◌∙◌}
-use mathlib.Core.List.{List}
-use native.Mathlib.Omega.{arith}
-use lib.ListN.{length, take, drop, length-take, length-drop, take-append-drop}
+use Rattle.std.proofs.Common.{◌≡◌, ℕ, ◌+◌, ◌-◌, ◌%◌, ◌≤◌, List, length, take, drop, ap, ◌∙◌, arith, length-take, length-drop, take-append-drop}
 use lib.Seq.{take_all}
 use Rattle.fields.specs.Output.{stored}
 use Rattle.fields.proofs.Lists.{stored_append}
-use Rattle.serializer.proofs.write.put_payload.Goals as goal
+use Rattle.serializer.proofs.cursor.put_payload.Goals as goal
 
 -- a payload cut at a place, and stored in two parts
 in_two : (out p : List ℕ) (at k : ℕ) → k ≤ length p → at + length p ≤ length out
@@ -23,8 +19,7 @@ returns c =
     let a = c.args in
     let k = 16 - a.at % 16 in
     let rest = take (length a.payload.now - k) (drop k a.payload.now) in
-    let from_start : k - 0 ≡ k = omega arith in
     let less : k ≤ length a.payload.now = omega (arith, c.if-payload-lt512.false) in
     c.put_bytes-3.ensures
-    ∙ ap (λ (o : List ℕ). stored o (a.at + k) rest) (c.put_bytes-2.ensures ∙ ap (λ (n : ℕ). stored a.output.now a.at (take n a.payload.now)) from_start)
+    ∙ ap (λ (o : List ℕ). stored o (a.at + k) rest) c.put_bytes-2.ensures
     ∙ in_two a.output.now a.payload.now a.at k less c.requires
