@@ -5,6 +5,4 @@ mod refusals;
 mod settle;
 
 pub use crate::refusals::basic_refusal;
-pub use crate::settle::{
-    extended_next, first_time, length_next, settled, stream_next, timestamp_next, type_next,
-};
+pub use crate::settle::{extended_next, field_next, first_time, settled};
