@@ -1,8 +1,5 @@
 -- The layout at known bytes, computed: each basic header form, each header type, an extended time, and Adobe's worked examples.
-use Prim.Native.Nat.{ℕ}
-use mathlib.Core.List.{List, [], ◌∷◌, map}
-use mathlib.Core.Path.{◌≡◌, refl}
-use lib.ListN.{length}
+use Rattle.std.proofs.Common.{◌≡◌, ℕ, List, [], ◌∷◌, map, length, refl}
 use Rattle.fields.specs.Endian.{big_endian, little_endian}
 use Rattle.chunk_header.specs.Layout.{Chunk, Header, one, two, three, type0, type1, type2, type3, present, basic_bytes, header_bytes, chunk_bytes}
 use Rattle.chunk_header.specs.Worked.{audio, video}

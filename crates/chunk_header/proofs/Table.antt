@@ -1,27 +1,14 @@
--- There are four chunk types and four fields of 11 bytes at most, and the type is the top two bits.
-use Prim.Native.Nat.{ℕ, zero, suc, ◌+◌, ◌*◌, ◌/◌, ◌<◌, ◌≤◌}
-use mathlib.Core.Path.{◌≡◌, refl}
-use mathlib.Core.List.{[], ◌∷◌}
-use native.Mathlib.Omega.{arith}
-use lib.Dec.{lit<, lit≤}
-use lib.ListN.{get_or}
+-- There are four chunk types, a message header has 11 bytes at most, and the type is the top two bits.
+use Rattle.std.proofs.Common.{◌≡◌, ℕ, zero, suc, ◌+◌, ◌*◌, ◌/◌, ◌<◌, ◌≤◌, [], ◌∷◌, get_or, refl, arith, lit<, lit≤}
 use Rattle.chunk_header.specs.declared.ChunkHeaderFormat.{ChunkHeaderFormat}
 use Rattle.chunk_header.specs.declared.ChunkHeaderFormat.TheVariants.{Full, TimeDeltaWithoutMessageStreamId, TimeDeltaOnly, Empty}
-use Rattle.chunk_header.specs.declared.HeaderField.{HeaderField}
-use Rattle.chunk_header.specs.declared.HeaderField.TheVariants.{Timestamp, MessageLength, MessageTypeId, MessageStreamId}
-use Rattle.chunk_header.specs.Table.{type_of, format_of, index_of, field_length, header_length}
+use Rattle.chunk_header.specs.Table.{type_of, format_of, field_length, header_length}
 
 pub type_lt : (format : ChunkHeaderFormat) → type_of format < 4
 type_lt Full = lit< tt
 type_lt TimeDeltaWithoutMessageStreamId = lit< tt
 type_lt TimeDeltaOnly = lit< tt
 type_lt Empty = lit< tt
-
-pub index_lt : (field : HeaderField) → index_of field < 4
-index_lt Timestamp = lit< tt
-index_lt MessageLength = lit< tt
-index_lt MessageTypeId = lit< tt
-index_lt MessageStreamId = lit< tt
 
 -- a message header has 11 bytes at most
 pub header_most : (f : ChunkHeaderFormat) → header_length (type_of f) ≤ 11

@@ -8,7 +8,7 @@ ghost use Rattle.chunk_header.specs.Table.{field_length, format_of, header_lengt
 use time::RtmpTimestamp;
 
 // The four chunk types.
-#[derive(Clone, Copy)]
+#[derive(Clone, Copy, Debug, PartialEq, Eq)]
 pub enum ChunkHeaderFormat {
     Full,
     TimeDeltaWithoutMessageStreamId,
@@ -17,7 +17,7 @@ pub enum ChunkHeaderFormat {
 }
 
 // The fields of a message header, in their order.
-#[derive(Clone, Copy)]
+#[derive(Clone, Copy, Debug, PartialEq, Eq)]
 pub enum HeaderField {
     Timestamp,
     MessageLength,
@@ -26,7 +26,7 @@ pub enum HeaderField {
 }
 
 // What is remembered of a chunk stream; no stream has the id 0.
-#[derive(Clone, Copy)]
+#[derive(Clone, Copy, Debug, PartialEq, Eq, Default)]
 pub struct ChunkHeader {
     pub chunk_stream_id: u32,
     pub timestamp: RtmpTimestamp,
@@ -50,7 +50,7 @@ pub const LARGEST_CHUNK_SIZE: u32 = 2147483647;
 pub const LARGEST_ROOM: u32 = 16777215;
 
 // Field lengths by chunk type: timestamp, message length, message type, message stream.
-const FIELD_LENGTHS: [u32; 16] = [3, 3, 1, 4, 3, 3, 1, 0, 3, 0, 0, 0, 0, 0, 0, 0];
+const FIELD_LENGTHS: [[u32; 4]; 4] = [[3, 3, 1, 4], [3, 3, 1, 0], [3, 0, 0, 0], [0, 0, 0, 0]];
 
 // Message header lengths by chunk type.
 const HEADER_LENGTHS: [usize; 4] = [11, 7, 3, 0];
@@ -59,15 +59,7 @@ impl ChunkHeader {
     pub fn new() -> ChunkHeader
         ensures { result ≡ nothing }
     {
-        ChunkHeader {
-            chunk_stream_id: 0,
-            timestamp: RtmpTimestamp::new(0),
-            timestamp_field: 0,
-            message_length: 0,
-            message_type_id: 0,
-            message_stream_id: 0,
-            can_be_dropped: false,
-        }
+        ChunkHeader::default()
     }
 }
 
@@ -75,53 +67,34 @@ impl ChunkHeader {
 pub fn chunk_type(format: ChunkHeaderFormat) -> usize
     ensures { result ≡ type_of format }
 {
-    match format {
-        ChunkHeaderFormat::Full => 0,
-        ChunkHeaderFormat::TimeDeltaWithoutMessageStreamId => 1,
-        ChunkHeaderFormat::TimeDeltaOnly => 2,
-        ChunkHeaderFormat::Empty => 3,
-    }
-}
-
-fn field_index(field: HeaderField) -> usize
-    ensures { result ≡ index_of field }
-{
-    match field {
-        HeaderField::Timestamp => 0,
-        HeaderField::MessageLength => 1,
-        HeaderField::MessageTypeId => 2,
-        HeaderField::MessageStreamId => 3,
-    }
+    format as usize
 }
 
 // How many bytes a field takes in a chunk of this format.
+#[tactic(auto, unfolding(crate::specs::Table::field_length))]
 pub fn field_length(format: ChunkHeaderFormat, field: HeaderField) -> u32
     ensures { result ≡ field_length (type_of format) (index_of field) }
 {
-    let at = chunk_type(format) * 4 + field_index(field);
-    FIELD_LENGTHS[at]
+    FIELD_LENGTHS[format as usize][field as usize]
 }
 
 // How many bytes the message header takes in a chunk of this format.
+#[tactic(auto, unfolding(crate::specs::Table::header_length, crate::specs::Table::field_length))]
 pub fn header_length(format: ChunkHeaderFormat) -> usize
     ensures { result ≡ header_length (type_of format) }
 {
-    let at = chunk_type(format);
-    HEADER_LENGTHS[at]
+    HEADER_LENGTHS[format as usize]
 }
 
 // The format that a chunk's first byte says.
+#[tactic(auto, unfolding(crate::specs::Table::format_of))]
 pub fn get_format(byte: u8) -> ChunkHeaderFormat
     ensures { result ≡ format_of byte }
 {
-    if byte < 64 {
-        return ChunkHeaderFormat::Full;
+    match byte / 64 {
+        0 => ChunkHeaderFormat::Full,
+        1 => ChunkHeaderFormat::TimeDeltaWithoutMessageStreamId,
+        2 => ChunkHeaderFormat::TimeDeltaOnly,
+        _ => ChunkHeaderFormat::Empty,
     }
-    if byte < 128 {
-        return ChunkHeaderFormat::TimeDeltaWithoutMessageStreamId;
-    }
-    if byte < 192 {
-        return ChunkHeaderFormat::TimeDeltaOnly;
-    }
-    ChunkHeaderFormat::Empty
 }

@@ -1,5 +1,5 @@
 // The calls of protocol control bodies.
-use protocol_control::{Deserialized, Kind, ProtocolControl, Serialized};
+use protocol_control::{Kind, ProtocolControl, WriteError};
 use script_said::{Refused, Written};
 use script_text::{read_hex, read_number};
 use std::fmt;
@@ -35,19 +35,14 @@ fn kind_of(name: &str) -> Option<Kind> {
 // Makes the call `body read`.
 fn read(kind: Kind, body: &[u8], text: &mut impl Write) -> fmt::Result {
     match protocol_control::deserialize(kind, body) {
-        Deserialized::Control(control) => put_control(text, control),
-        Deserialized::BodyTooShort => write!(text, "{}", Refused(15)),
-        Deserialized::OutOfLimits => write!(text, "{}", Refused(16)),
+        Ok(control) => put_control(text, control),
+        Err(error) => write!(text, "{}", Refused(error.number())),
     }
 }
 
 // Makes the call `body write`.
 fn write(control: ProtocolControl, output: &mut [u8], text: &mut impl Write) -> fmt::Result {
-    let count = match protocol_control::serialize(control, output) {
-        Serialized::Written(count) => Ok(count),
-        Serialized::OutOfLimits => Err(16),
-        Serialized::OutputTooShort => Err(5),
-    };
+    let count = protocol_control::serialize(control, output).map_err(WriteError::number);
     write!(text, "{}", Written { count, output })
 }
 

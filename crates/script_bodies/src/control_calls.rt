@@ -4,7 +4,7 @@ use script_text::{read_hex, read_number};
 use std::fmt;
 use std::fmt::Write;
 use time::RtmpTimestamp;
-use user_control::{Deserialized, Serialized, UserControlEvent};
+use user_control::{UserControlEvent, WriteError};
 
 // Puts an event: its name and its numbers.
 fn put_event(text: &mut impl Write, event: UserControlEvent) -> fmt::Result {
@@ -27,18 +27,14 @@ fn put_event(text: &mut impl Write, event: UserControlEvent) -> fmt::Result {
 // Makes the call `control read`.
 fn read(body: &[u8], text: &mut impl Write) -> fmt::Result {
     match user_control::deserialize(body) {
-        Deserialized::Event(event) => put_event(text, event),
-        Deserialized::BodyTooShort => write!(text, "{}", Refused(15)),
-        Deserialized::UnknownCode => write!(text, "{}", Refused(16)),
+        Ok(event) => put_event(text, event),
+        Err(error) => write!(text, "{}", Refused(error.number())),
     }
 }
 
 // Makes the call `control write`.
 fn write(event: UserControlEvent, output: &mut [u8], text: &mut impl Write) -> fmt::Result {
-    let count = match user_control::serialize(event, output) {
-        Serialized::Written(count) => Ok(count),
-        Serialized::OutputTooShort => Err(5),
-    };
+    let count = user_control::serialize(event, output).map_err(WriteError::number);
     write!(text, "{}", Written { count, output })
 }
 

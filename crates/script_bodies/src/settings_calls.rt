@@ -1,31 +1,25 @@
 // The calls of settings.
 use script_said::{Refused, Written};
 use script_text::{read_hex, read_number};
-use settings::{Reading, Settings, Version, Writing};
+use settings::{Settings, Stored, Version, WriteError};
 use std::fmt;
 use std::fmt::Write;
 
 // The version that the word is.
 fn read_version(word: &str) -> Option<Version> {
-    match word {
-        "1" => Some(Version::One),
-        "2" => Some(Version::Two),
-        _ => None,
-    }
+    let number: u8 = read_number(word)?;
+    Version::try_from(number).ok()
 }
 
 // Makes the call `settings read` by a reader of this version.
 fn read(reader: Version, bytes: &[u8], text: &mut impl Write) -> fmt::Result {
     match settings::read(reader, bytes) {
-        Reading::Read { settings, used } => write!(
+        Ok(Stored { settings, used }) => write!(
             text,
             "settings {} {} {} used {used}",
             settings.max_chunk_size, settings.room, settings.camera_kind
         ),
-        Reading::TooShort => write!(text, "{}", Refused(25)),
-        Reading::UnknownVersion(_) => write!(text, "{}", Refused(26)),
-        Reading::WrongLength => write!(text, "{}", Refused(27)),
-        Reading::OutOfLimits => write!(text, "{}", Refused(28)),
+        Err(error) => write!(text, "{}", Refused(error.number())),
     }
 }
 
@@ -36,11 +30,7 @@ fn write(
     output: &mut [u8],
     text: &mut impl Write,
 ) -> fmt::Result {
-    let count = match settings::write(version, settings, output) {
-        Writing::Written(count) => Ok(count),
-        Writing::OutOfLimits => Err(28),
-        Writing::OutputTooShort => Err(5),
-    };
+    let count = settings::write(version, settings, output).map_err(WriteError::number);
     write!(text, "{}", Written { count, output })
 }
 
