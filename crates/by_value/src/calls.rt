@@ -58,9 +58,7 @@ impl Decoding {
                 let told = self.decoder.set_max_chunk_size(read_number(size)?);
                 self.put_told(told, text).ok()
             }
-            ["dec", "size?"] => {
-                write!(text, "size {}", self.decoder.get_max_chunk_size()).ok()
-            }
+            ["dec", "size?"] => { write!(text, "size {}", self.decoder.get_max_chunk_size()).ok() }
             _ => None,
         }
     }
