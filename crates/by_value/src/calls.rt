@@ -1,56 +1,65 @@
 // The calls of a decoder that goes in by value and comes back.
-use deserializer::ChunkDeserializer;
-use script_calls::{Fed, Told};
-use script_text::{read_hex, read_number};
+use deserializer::{ChunkDeserializer, Told};
+use script_calls::{Fed, Taken};
+use script_text::{MOST_WORDS, read_hex, read_number, split_words};
 use std::fmt;
 use std::fmt::Write;
 
-// After `dec new` or `dec size`. The decoder that was handed back is in place of the last.
-fn put_told(
-    decoder: &mut ChunkDeserializer,
-    told: deserializer::Told,
-    text: &mut impl Write,
-) -> fmt::Result {
-    *decoder = told.deserializer;
-    write!(text, "{}", Told(told.telling))
+// The bytes that a line gives in hex.
+const BYTES_LENGTH: usize = 8192;
+
+// The payload buffer.
+const PAYLOAD_LENGTH: usize = 65536;
+
+// The room of the decoder that is there at the start.
+const FIRST_ROOM: u32 = 65536;
+
+// What calls are made on, kept from line to line, and what they are lent.
+#[derive(Drop)]
+pub struct Decoding {
+    decoder: ChunkDeserializer,
+    bytes: [u8; BYTES_LENGTH],
+    payload: [u8; PAYLOAD_LENGTH],
 }
 
-// Makes the call `dec feed`.
-fn feed(
-    decoder: &mut ChunkDeserializer,
-    piece: &[u8],
-    payload: &mut [u8],
-    text: &mut impl Write,
-) -> fmt::Result {
-    let decoded = decoder.get_next_message(piece, payload);
-    *decoder = decoded.deserializer;
-    let answer = decoded.answer;
-    write!(text, "{}", Fed { answer, payload })
-}
+impl Decoding {
+    // A fresh decoder.
+    pub fn new() -> Self {
+        Decoding {
+            decoder: ChunkDeserializer::new(FIRST_ROOM).deserializer,
+            bytes: [0; BYTES_LENGTH],
+            payload: [0; PAYLOAD_LENGTH],
+        }
+    }
 
-// Makes the call that the words are, and puts its answer; none where they are no call. More payload buffer than there is cannot be
-// lent.
-pub fn make(
-    decoder: &mut ChunkDeserializer,
-    words: &[&str],
-    bytes: &mut [u8],
-    payload: &mut [u8],
-    text: &mut impl Write,
-) -> Option<()> {
-    match *words {
-        ["dec", "new", room] => {
-            let told = ChunkDeserializer::new(read_number(room)?);
-            put_told(decoder, told, text).ok()
+    // Puts whether a room or a size was taken. The decoder that was handed back is in place of the last.
+    fn put_told(&mut self, told: Told, text: &mut impl Write) -> fmt::Result {
+        self.decoder = told.deserializer;
+        write!(text, "{}", Taken(told.telling))
+    }
+
+    // Makes the call that the line is, and puts its answer; none where it is no call. More payload buffer than there is cannot be lent.
+    pub fn make(&mut self, line: &[u8], text: &mut impl Write) -> Option<()> {
+        let mut words = [""; MOST_WORDS];
+        match *split_words(line, &mut words)? {
+            ["dec", "new", room] => {
+                let told = ChunkDeserializer::new(read_number(room)?);
+                self.put_told(told, text).ok()
+            }
+            ["dec", "feed", buffer, hex] => {
+                let piece = read_hex(hex, &mut self.bytes)?;
+                let payload = self.payload.get_mut(..read_number(buffer)?)?;
+                let decoded = self.decoder.get_next_message(piece, payload);
+                self.decoder = decoded.deserializer;
+                let answer = decoded.answer;
+                write!(text, "{}", Fed { answer, payload }).ok()
+            }
+            ["dec", "size", size] => {
+                let told = self.decoder.set_max_chunk_size(read_number(size)?);
+                self.put_told(told, text).ok()
+            }
+            ["dec", "size?"] => { write!(text, "size {}", self.decoder.get_max_chunk_size()).ok() }
+            _ => None,
         }
-        ["dec", "feed", buffer, hex] => {
-            let lent = payload.get_mut(..read_number(buffer)?)?;
-            feed(decoder, read_hex(hex, bytes)?, lent, text).ok()
-        }
-        ["dec", "size", size] => {
-            let told = decoder.set_max_chunk_size(read_number(size)?);
-            put_told(decoder, told, text).ok()
-        }
-        ["dec", "size?"] => write!(text, "size {}", decoder.get_max_chunk_size()).ok(),
-        _ => None,
     }
 }

@@ -1,5 +1,5 @@
 // The calls of protocol control bodies.
-use protocol_control::{Kind, ProtocolControl};
+use protocol_control::{Kind, ProtocolControl, WriteError};
 use script_said::{Refused, Written};
 use script_text::{read_hex, read_number};
 use std::fmt;
@@ -42,7 +42,7 @@ fn read(kind: Kind, body: &[u8], text: &mut impl Write) -> fmt::Result {
 
 // Makes the call `body write`.
 fn write(control: ProtocolControl, output: &mut [u8], text: &mut impl Write) -> fmt::Result {
-    let count = protocol_control::serialize(control, output).map_err(|error| error.number());
+    let count = protocol_control::serialize(control, output).map_err(WriteError::number);
     write!(text, "{}", Written { count, output })
 }
 

@@ -4,7 +4,7 @@ use script_text::{read_hex, read_number};
 use std::fmt;
 use std::fmt::Write;
 use time::RtmpTimestamp;
-use user_control::UserControlEvent;
+use user_control::{UserControlEvent, WriteError};
 
 // Puts an event: its name and its numbers.
 fn put_event(text: &mut impl Write, event: UserControlEvent) -> fmt::Result {
@@ -34,7 +34,7 @@ fn read(body: &[u8], text: &mut impl Write) -> fmt::Result {
 
 // Makes the call `control write`.
 fn write(event: UserControlEvent, output: &mut [u8], text: &mut impl Write) -> fmt::Result {
-    let count = user_control::serialize(event, output).map_err(|error| error.number());
+    let count = user_control::serialize(event, output).map_err(WriteError::number);
     write!(text, "{}", Written { count, output })
 }
 

@@ -1,30 +1,24 @@
 // The calls of settings.
 use script_said::{Refused, Written};
 use script_text::{read_hex, read_number};
-use settings::{Settings, Version};
+use settings::{Settings, Stored, Version, WriteError};
 use std::fmt;
 use std::fmt::Write;
 
 // The version that the word is.
 fn read_version(word: &str) -> Option<Version> {
-    match word {
-        "1" => Some(Version::One),
-        "2" => Some(Version::Two),
-        _ => None,
-    }
+    let number: u8 = read_number(word)?;
+    Version::try_from(number).ok()
 }
 
 // Makes the call `settings read` by a reader of this version.
 fn read(reader: Version, bytes: &[u8], text: &mut impl Write) -> fmt::Result {
     match settings::read(reader, bytes) {
-        Ok(stored) => {
-            let settings = stored.settings;
-            write!(
-                text,
-                "settings {} {} {} used {}",
-                settings.max_chunk_size, settings.room, settings.camera_kind, stored.used
-            )
-        }
+        Ok(Stored { settings, used }) => write!(
+            text,
+            "settings {} {} {} used {used}",
+            settings.max_chunk_size, settings.room, settings.camera_kind
+        ),
         Err(error) => write!(text, "{}", Refused(error.number())),
     }
 }
@@ -36,7 +30,7 @@ fn write(
     output: &mut [u8],
     text: &mut impl Write,
 ) -> fmt::Result {
-    let count = settings::write(version, settings, output).map_err(|error| error.number());
+    let count = settings::write(version, settings, output).map_err(WriteError::number);
     write!(text, "{}", Written { count, output })
 }
 

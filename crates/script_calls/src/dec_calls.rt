@@ -8,9 +8,9 @@ use test_parts::part;
 
 // Whether a room or a size was taken.
 #[derive(Clone, Copy)]
-pub struct Told(pub Result<(), Refusal>);
+pub struct Taken(pub Result<(), Refusal>);
 
-impl fmt::Display for Told {
+impl fmt::Display for Taken {
     fn fmt<W: Write>(&self, f: &mut fmt::Formatter<W>) -> fmt::Result {
         match self.0 {
             Ok(()) => f.write_str("ok"),
@@ -63,7 +63,7 @@ pub fn make_dec(
     match *words {
         ["dec", "new", room] => {
             let told = in_place::make(held, rows, read_number(room)?);
-            write!(text, "{}", Told(told)).ok()
+            write!(text, "{}", Taken(told)).ok()
         }
         ["dec", "feed", buffer, hex] => {
             let payload = payload.get_mut(..read_number(buffer)?)?;
@@ -72,7 +72,7 @@ pub fn make_dec(
         }
         ["dec", "size", size] => {
             let told = in_place::set_max_chunk_size(held, read_number(size)?);
-            write!(text, "{}", Told(told)).ok()
+            write!(text, "{}", Taken(told)).ok()
         }
         ["dec", "size?"] => write!(text, "size {}", in_place::get_max_chunk_size(held)).ok(),
         _ => None,

@@ -5,5 +5,5 @@
 mod dec_calls;
 mod enc_calls;
 
-pub use crate::dec_calls::{Fed, Told, make_dec};
+pub use crate::dec_calls::{Fed, Taken, make_dec};
 pub use crate::enc_calls::make_enc;

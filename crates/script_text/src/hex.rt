@@ -1,5 +1,5 @@
 // Bytes as hex digits.
-ghost use Rattle.std.specs.Prelude.{◌≤◌, IfSome, length};
+ghost use Rattle.std.specs.Prelude.{◌≡◌, ◌/◌, IfSome, length};
 
 // The value of a digit, a letter of either case.
 fn digit_value(byte: u8) -> Option<u8> {
@@ -21,7 +21,7 @@ fn read_byte(pair: &[u8]) -> Option<u8> {
 
 // The bytes that the word says, put at the start of `bytes`: none for a dash.
 pub fn read_hex<'a>(word: &str, bytes: &'a mut [u8]) -> Option<&'a [u8]>
-    ensures { IfSome result (λ said. length said.now ≤ length bytes.entry.now) }
+    ensures { IfSome result (λ said. length said.now ≡ length word.now / 2) }
 {
     if word == "-" {
         return Some(&[]);

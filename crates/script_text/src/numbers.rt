@@ -1,5 +1,5 @@
 // Numbers and flags in words.
-ghost use Rattle.std.specs.Prelude.{◌<◌, IsSome, length};
+ghost use Rattle.std.specs.Prelude.{◌≡◌, ◌≤◌, IsSome, Some, length, slice_index, true, false, codes};
 
 use std::str::FromStr;
 
@@ -7,7 +7,8 @@ use std::str::FromStr;
 pub fn read_number<N: FromStr>(word: &str) -> Option<N>
 where
     N::Err: Drop,
-    ensures { IsSome result → 0 < length word.now }
+    ensures digit { IsSome result → 48 ≤ slice_index word.now 0 }
+    ensures no_leading_zero { IsSome result → slice_index word.now 0 ≡ 48 → length word.now ≡ 1 }
 {
     match word.as_bytes() {
         [b'0'] | [b'1'..=b'9', ..] => word.parse().ok(),
@@ -17,7 +18,8 @@ where
 
 // The flag that the word is.
 pub fn read_flag(word: &str) -> Option<bool>
-    ensures { IsSome result → 0 < length word.now }
+    ensures no { result ≡ Some false → word.now ≡ codes "0" }
+    ensures yes { result ≡ Some true → word.now ≡ codes "1" }
 {
     match word {
         "0" => Some(false),
