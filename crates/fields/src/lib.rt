@@ -1,23 +1,9 @@
 // Bytes in lent slices: numbers, and runs of bytes, put at a place and read from a place.
 #![tactic(auto)]
 
-ghost use Rattle.std.specs.Prelude.{◌≡◌, ◌%◌, ◌^◌, min, length, take, drop};
+ghost use Rattle.std.specs.Prelude.{◌≡◌, ◌%◌, ◌^◌, length, take, drop};
 ghost use Rattle.fields.specs.Endian.{big_endian, number, swapped};
 ghost use Rattle.fields.specs.Output.{stored};
-
-// A byte as a number of 32 bits.
-pub fn wide(byte: u8) -> u32
-    ensures { result ≡ byte }
-{
-    byte as u32
-}
-
-// The smaller of two lengths.
-pub fn least(a: usize, b: usize) -> usize
-    ensures { result ≡ min a b }
-{
-    if a < b { a } else { b }
-}
 
 // The number that the bytes mean; of more than four, its last 32 bits.
 fn read_number(bytes: &[u8]) -> u32
