@@ -7,7 +7,7 @@ use Rattle.chunk_header.specs.Layout.{header_bytes}
 use Rattle.chunk_header.specs.Table.{type_of, field_length, header_length}
 use Rattle.fields.specs.Endian.{big_endian, little_endian}
 use Rattle.serializer.specs.declared.cursor.Cursor.{Cursor}
-use Rattle.serializer.specs.Cursor.{Added, Fits}
+use Rattle.serializer.specs.Cursor.{Added, HasRoom}
 use Rattle.serializer.specs.Packet.{initial_time, message_header}
 use Rattle.serializer.proofs.Added.{added_none, added_same, added_then}
 
@@ -21,7 +21,7 @@ length_type_bytes h = big_endian 3 h.message_length ++ big_endian 1 h.message_ty
 abbrev pub stream_bytes : ChunkHeader → List ℕ
 stream_bytes h = little_endian 4 h.message_stream_id
 
-module _ (c : Cursor) (f : ChunkHeaderFormat) (h : ChunkHeader) (fits : Fits c (header_length (type_of f))) where
+module _ (c : Cursor) (f : ChunkHeaderFormat) (h : ChunkHeader) (fits : HasRoom c (header_length (type_of f))) where
   header_of : {c' : Cursor} (g : ChunkHeaderFormat) → f ≡ g → Added c (header_bytes (message_header g h)) c' → Added c (header_bytes (message_header f h)) c'
   header_of g e a = added_same (ap (λ (x : ChunkHeaderFormat). header_bytes (message_header x h)) (sym e)) a
 

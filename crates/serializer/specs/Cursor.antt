@@ -4,8 +4,8 @@ use Rattle.fields.specs.Output.{Adds}
 use Rattle.serializer.specs.declared.cursor.Cursor.{Cursor}
 
 -- so many bytes fit from the place on
-abbrev pub Fits : Cursor → ℕ → Type 0
-Fits c n = c.at + n ≤ length c.output.now
+abbrev pub HasRoom : Cursor → ℕ → Type 0
+HasRoom c n = c.at + n ≤ length c.output.now
 
 -- the bytes are added, to the same output
 pub record Added (c : Cursor) (bytes : List ℕ) (c' : Cursor) : Type 0 where

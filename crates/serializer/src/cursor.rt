@@ -2,7 +2,7 @@
 ghost use Rattle.std.specs.Prelude.{◌≡◌, ◌+◌, ◌≤◌, length};
 ghost use Rattle.fields.specs.Endian.{big_endian};
 ghost use Rattle.fields.specs.Output.{stored};
-ghost use Rattle.serializer.specs.Cursor.{Added, Fits};
+ghost use Rattle.serializer.specs.Cursor.{Added, HasRoom};
 
 use fields::{put_bytes, put_number};
 
@@ -18,19 +18,20 @@ fn put_payload(payload: &[u8], output: &mut [u8], at: usize)
     requires { at + length payload.now ≤ length output.old }
     ensures { output.new ≡ stored output.old at payload.now }
 {
-    let short = 16 - at % 16;
     if payload.len() < 512 {
         put_bytes(payload, output, at);
-        return;
+    } else {
+        let short = 16 - at % 16;
+        put_bytes(&payload[..short], output, at);
+        put_bytes(&payload[short..], output, at + short);
     }
-    put_bytes(&payload[..short], output, at);
-    put_bytes(&payload[short..], output, at + short);
 }
 
 impl Cursor<'_> {
     // Adds the last bytes of a number.
+    #[tactic(auto, using(fields::proofs::Endian::length_big))]
     pub fn number(&mut self, value: u32, width: usize)
-        requires { Fits self.old width }
+        requires { HasRoom self.old width }
         ensures { Added self.old (big_endian width value) self.new }
     {
         put_number(value, width, self.output, self.at);
@@ -38,7 +39,7 @@ impl Cursor<'_> {
     }
 
     pub fn payload(&mut self, payload: &[u8])
-        requires { Fits self.old (length payload.now) }
+        requires { HasRoom self.old (length payload.now) }
         ensures { Added self.old payload.now self.new }
     {
         put_payload(payload, self.output, self.at);

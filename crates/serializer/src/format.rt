@@ -1,7 +1,7 @@
 // Which chunk stream, which format and which time field the first chunk of a message has.
 ghost use Rattle.std.specs.Prelude.{◌≡◌, ◌-◌, ◌<◌};
 ghost use Rattle.serializer.specs.Header.{first_chunk, time_field};
-ghost use Rattle.serializer.specs.Header.{delta as Header·delta, format as Header·format};
+ghost use Rattle.serializer.specs.Header.{delta as delta_of, format as format_of};
 ghost use Rattle.serializer.specs.Packet.{later_format};
 ghost use Rattle.serializer.specs.Message.{chunk_stream};
 
@@ -59,31 +59,34 @@ pub fn later_format(force_uncompressed: bool) -> ChunkHeaderFormat
     }
 }
 
+// The wrapped difference to the remembered timestamp.
+#[tactic(auto, unfolding(crate::specs::Header::delta))]
+fn delta(message: Message, previous: ChunkHeader) -> u32
+    ensures { result ≡ delta_of message previous }
+{
+    message.timestamp.subtract(previous.timestamp).value
+}
+
 // The five rules, in their order.
 #[tactic(auto, unfolding(crate::specs::Header::format))]
-fn get_header_format(
-    message: Message,
-    csid: u32,
-    delta: u32,
-    previous: ChunkHeader,
-) -> ChunkHeaderFormat
-    requires { (csid ≡ chunk_stream message.type_id) × (delta ≡ Header·delta message previous) }
-    ensures { result ≡ Header·format message previous }
+fn get_header_format(message: Message, previous: ChunkHeader) -> ChunkHeaderFormat
+    ensures { result ≡ format_of message previous }
 {
     if message.force_uncompressed
-        || previous.chunk_stream_id != csid
+        || previous.chunk_stream_id != get_csid_for_message_type(message.type_id)
         || previous.can_be_dropped
         || message.stream_id != previous.message_stream_id
     {
-        return ChunkHeaderFormat::Full;
+        ChunkHeaderFormat::Full
+    } else if message.type_id != previous.message_type_id
+        || message.length != previous.message_length
+    {
+        ChunkHeaderFormat::TimeDeltaWithoutMessageStreamId
+    } else if delta(message, previous) != previous.timestamp_field {
+        ChunkHeaderFormat::TimeDeltaOnly
+    } else {
+        ChunkHeaderFormat::Empty
     }
-    if message.type_id != previous.message_type_id || message.length != previous.message_length {
-        return ChunkHeaderFormat::TimeDeltaWithoutMessageStreamId;
-    }
-    if delta != previous.timestamp_field {
-        return ChunkHeaderFormat::TimeDeltaOnly;
-    }
-    ChunkHeaderFormat::Empty
 }
 
 // The time field: the absolute time in type 0, else the delta.
@@ -97,17 +100,14 @@ fn time_field(format: ChunkHeaderFormat, time: u32, delta: u32) -> u32
 }
 
 // What the first chunk of the message says, after what is remembered of its stream.
-#[tactic(auto, unfolding(crate::specs::Header::delta))]
 pub fn first_chunk(message: Message, previous: ChunkHeader) -> FirstChunk
     ensures { result ≡ first_chunk message previous }
 {
-    let delta = message.timestamp.subtract(previous.timestamp).value;
-    let chunk_stream_id = get_csid_for_message_type(message.type_id);
-    let format = get_header_format(message, chunk_stream_id, delta, previous);
+    let format = get_header_format(message, previous);
     let header = ChunkHeader {
-        chunk_stream_id,
+        chunk_stream_id: get_csid_for_message_type(message.type_id),
         timestamp: message.timestamp,
-        timestamp_field: time_field(format, message.timestamp.value, delta),
+        timestamp_field: time_field(format, message.timestamp.value, delta(message, previous)),
         message_length: message.length,
         message_type_id: message.type_id,
         message_stream_id: message.stream_id,

@@ -29,6 +29,7 @@ fn chunk_length(format: ChunkHeaderFormat, header: ChunkHeader) -> usize
 
 impl Plan<'_> {
     // What all chunks take. Most payloads are one.
+    #[tactic(auto, using(crate::proofs::Chunk::head_most, crate::proofs::PacketLength::heads))]
     pub fn length(&self) -> usize
         ensures { result ≡ length (bytes_of self.now) }
     {

@@ -47,13 +47,11 @@ fn payload_length(payload: &[u8]) -> Result<u32, PacketError>
     ensures { MatchResult result (λ n. (n ≡ length payload.now) × (0 < n) × (n ≤ max_length))
         (λ e. ((e ≡ PacketError.NoPayload) × (length payload.now ≡ 0)) ⊎ ((e ≡ PacketError.MessageTooLong) × (max_length < length payload.now))) }
 {
-    if payload.is_empty() {
-        return Err(PacketError::NoPayload);
+    match payload.len() {
+        0 => Err(PacketError::NoPayload),
+        1..=MAX_MESSAGE_LENGTH => Ok(payload.len() as u32),
+        _ => Err(PacketError::MessageTooLong),
     }
-    if MAX_MESSAGE_LENGTH < payload.len() {
-        return Err(PacketError::MessageTooLong);
-    }
-    Ok(payload.len() as u32)
 }
 
 impl ChunkSerializer {
@@ -102,6 +100,7 @@ impl ChunkSerializer {
     }
 
     // Writes a message at the start of `output`.
+    // Kept: six arguments for a message, here and in `packet_length`: the public signature, which README names.
     #[tactic(auto, unfolding(crate::specs::Serialize::serialized))]
     pub fn serialize(
         mut self,

@@ -4,39 +4,12 @@ use Rattle.chunk_header.specs.Layout.{header_bytes, extended_bytes}
 use Rattle.chunk_header.specs.Table.{type_of}
 use Rattle.chunk_header.proofs.Table.{type_lt}
 use Rattle.fields.specs.Endian.{big_endian}
-use Rattle.fields.proofs.Endian.{length_big}
 use Rattle.serializer.specs.Cursor.{Added}
 use Rattle.serializer.specs.Packet.{message_header, extended}
 use Rattle.serializer.proofs.Added.{added_same, added_then}
 use Rattle.serializer.proofs.Chunk.{basic_field, chunk_split, head_bytes, length_header, length_head}
 use Rattle.serializer.proofs.PacketLength.{length_chunk}
 use Rattle.serializer.proofs.cursor.Cursor.chunk.Goals as goal
-
-pub number-requires : goal.number-requires
-number-requires c =
-    let a = c.args in
-    omega (arith, c.requires.1, length_chunk a.format a.header a.payload.now, length_head a.format a.header)
-
-pub message_header-requires : goal.message_header-requires
-message_header-requires c =
-    let a = c.args in
-    let s = c.number.ensures in
-    omega (arith, s.adds.place, s.whole, length_big 1 c.first_byte.result, c.requires.1, length_chunk a.format a.header a.payload.now, length_head a.format a.header)
-
-pub extended_timestamp-requires : goal.extended_timestamp-requires
-extended_timestamp-requires c =
-    let a = c.args in
-    let s = c.number.ensures in
-    let t = c.message_header.ensures in
-    omega (arith, s.adds.place, s.whole, length_big 1 c.first_byte.result, t.adds.place, t.whole, length_header a.format a.header, c.requires.1, length_chunk a.format a.header a.payload.now, length_head a.format a.header)
-
-pub payload-requires : goal.payload-requires
-payload-requires c =
-    let a = c.args in
-    let s = c.number.ensures in
-    let t = c.message_header.ensures in
-    let u = c.extended_timestamp.ensures in
-    omega (arith, s.adds.place, s.whole, length_big 1 c.first_byte.result, t.adds.place, t.whole, u.adds.place, u.whole, length_header a.format a.header, c.requires.1, length_chunk a.format a.header a.payload.now, length_head a.format a.header)
 
 pub returns : goal.returns
 returns c =
