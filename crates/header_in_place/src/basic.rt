@@ -126,13 +126,13 @@ pub fn basic(
     h: Held,
     rows: &[u32; TABLE_LENGTH],
     first: u32,
-    id: Option<u32>,
+    read: Option<u32>,
     kept: Stage,
 ) -> Result<Done, ChunkRefusal>
-    ensures { told result ≡ done_of h (basic_by id (setting_in h) (look rows.now) (reader_from h) (format_of first) (stage_of kept)) }
+    ensures { told result ≡ done_of h (basic_by read (setting_in h) (look rows.now) (reader_from h) (format_of first) (stage_of kept)) }
 {
-    match id {
-        Some(id) => named(h, rows, first, id),
-        None => Ok(goes(h, kept)),
-    }
+    let Some(id) = read else {
+        return Ok(goes(h, kept));
+    };
+    named(h, rows, first, id)
 }
