@@ -8,12 +8,12 @@ ghost use Rattle.held.specs.Done.{done_of, meant_by, told};
 ghost use Rattle.held.specs.Numbers.{place_in, reader_from, row_from, setting_in};
 ghost use Rattle.held.specs.Stages.{stage_of};
 
-use chunk_header::{ChunkHeaderFormat, HeaderField};
+use chunk_header::ChunkHeaderFormat;
 use held::{
     ChunkRefusal, Done, Event, Held, HeldRow, ROWS, Stage, TABLE_LENGTH, claimed, find, first_free,
     goes, row_in,
 };
-use settling::{basic_refusal, field_next};
+use settling::{basic_refusal, timestamp_next};
 
 // The format that a first byte says.
 #[tactic(auto, unfolding(chunk_header::specs::Table::format_of))]
@@ -32,15 +32,14 @@ fn format_in(first: u32) -> ChunkHeaderFormat
 fn known(h: Held, format: ChunkHeaderFormat, row: HeldRow, place: u32) -> Result<Done, ChunkRefusal>
     ensures { told result ≡ done_of h (machine_known (setting_in h) (reader_from h) format (row_from row) place) }
 {
-    let begun = Held {
+    timestamp_next(Held {
         format,
         place,
         left: 0,
         before: row,
         header: row,
         ..h
-    };
-    field_next(begun, HeaderField::Timestamp)
+    })
 }
 
 // A chunk of a stream that claims a free row, if there is one.

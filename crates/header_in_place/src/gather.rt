@@ -4,10 +4,9 @@ ghost use Rattle.byte_machine.specs.Step.{extended_field_step, gathered as machi
 ghost use Rattle.held.specs.Done.{done_of, told};
 ghost use Rattle.held.specs.Numbers.{reader_from, setting_in};
 
-use chunk_header::HeaderField;
 use fields::swap_bytes;
 use held::{ChunkRefusal, Done, Held, HeldRow, Stage, goes};
-use settling::{extended_next, field_next, settled};
+use settling::{extended_next, length_next, settled, stream_next, type_next};
 
 // One byte more of a number, and how many it lacks then.
 fn with_byte(before: u32, lacks: u32, byte: u8) -> (u32, u32)
@@ -33,7 +32,7 @@ pub fn timestamp_byte(h: Held, before: u32, lacks: u32, byte: u8) -> Result<Done
         field: gathered,
         ..h.header
     };
-    field_next(Held { header, ..h }, HeaderField::MessageLength)
+    length_next(Held { header, ..h })
 }
 
 #[tactic(auto, unfolding(byte_machine::specs::Step::length_field_step))]
@@ -48,7 +47,7 @@ pub fn length_byte(h: Held, before: u32, lacks: u32, byte: u8) -> Result<Done, C
         length: gathered,
         ..h.header
     };
-    field_next(Held { header, ..h }, HeaderField::MessageTypeId)
+    type_next(Held { header, ..h })
 }
 
 #[tactic(auto, unfolding(byte_machine::specs::Step::type_field_step))]
@@ -59,7 +58,7 @@ pub fn type_byte(h: Held, byte: u8) -> Result<Done, ChunkRefusal>
         kind: byte as u32,
         ..h.header
     };
-    field_next(Held { header, ..h }, HeaderField::MessageStreamId)
+    stream_next(Held { header, ..h })
 }
 
 #[tactic(auto, unfolding(byte_machine::specs::Step::stream_field_step))]

@@ -5,4 +5,6 @@ mod refusals;
 mod settle;
 
 pub use crate::refusals::basic_refusal;
-pub use crate::settle::{extended_next, field_next, first_time, settled};
+pub use crate::settle::{
+    extended_next, first_time, length_next, settled, stream_next, timestamp_next, type_next,
+};

@@ -1,14 +1,14 @@
 // A header that is whole, and the fields that may come before it is.
-ghost use Rattle.std.specs.Prelude.{◌≡◌, not, ◌&&◌, ◌==◌, nat_lt, Ok};
+ghost use Rattle.std.specs.Prelude.{◌≡◌, not, ◌&&◌, ◌==◌, nat_lt, ◌≢◌, Ok};
 ghost use Rattle.chunk_header.specs.Limits.{max_field};
 ghost use Rattle.chunk_header.specs.Table.{is_full};
 ghost use Rattle.chunk_meaning.specs.Meaning.{first_refusal, first_time, later_refusal, repeats as message_repeats};
-ghost use Rattle.byte_machine.specs.Header.{extended_next, stage_of as field_stage, whole};
+ghost use Rattle.byte_machine.specs.Header.{extended_next, lacks, length_next, stage_of as field_stage, stream_next, timestamp_next, type_next, whole};
+ghost use Rattle.byte_machine.specs.Reader.{at, go};
 ghost use Rattle.held.specs.Done.{done_of, meant_by, refused_by, told};
 ghost use Rattle.held.specs.Numbers.{reader_from, row_from, setting_in};
 ghost use Rattle.held.specs.Stages.{stage_of};
 ghost use Rattle.settling.specs.Opened.{opened_to};
-ghost use Rattle.settling.specs.Fields.{next_of};
 
 use crate::refusals::is_full;
 use chunk_header::{ChunkHeaderFormat, HeaderField, MAX_INITIAL_TIMESTAMP, field_length};
@@ -137,19 +137,47 @@ fn stage_at(field: HeaderField, lacks: u32) -> Stage
     }
 }
 
-#[tactic(auto, unfolding(byte_machine::specs::Header::timestamp_next, byte_machine::specs::Header::length_next, byte_machine::specs::Header::type_next, byte_machine::specs::Header::stream_next))]
-// A field comes next, or is passed over where the format does not have it.
-pub fn field_next(h: Held, field: HeaderField) -> Result<Done, ChunkRefusal>
-    ensures { told result ≡ done_of h (next_of field (setting_in h) (reader_from h)) }
+// A field comes next, or is passed over where the format does not have it: then what is after it comes.
+fn field_or<F: FnOnce(Held) -> Result<Done, ChunkRefusal>>(
+    h: Held,
+    field: HeaderField,
+    after: F,
+) -> Result<Done, ChunkRefusal>
+    requires { F.pre after h }
+    ensures passes { lacks (reader_from h) field ≡ 0 → F.post after h result }
+    ensures stops { lacks (reader_from h) field ≢ 0 → told result ≡ done_of h (go (at (reader_from h) (field_stage field (lacks (reader_from h) field)))) }
 {
     let lacks = field_length(h.format, field);
-    if lacks != 0 {
-        return Ok(goes(h, stage_at(field, lacks)));
+    if lacks == 0 {
+        return after(h);
     }
-    match field {
-        HeaderField::Timestamp => field_next(h, HeaderField::MessageLength),
-        HeaderField::MessageLength => field_next(h, HeaderField::MessageTypeId),
-        HeaderField::MessageTypeId => field_next(h, HeaderField::MessageStreamId),
-        HeaderField::MessageStreamId => extended_next(h),
-    }
+    Ok(goes(h, stage_at(field, lacks)))
+}
+
+#[tactic(auto, unfolding(byte_machine::specs::Header::stream_next))]
+pub fn stream_next(h: Held) -> Result<Done, ChunkRefusal>
+    ensures { told result ≡ done_of h (stream_next (setting_in h) (reader_from h)) }
+{
+    field_or(h, HeaderField::MessageStreamId, extended_next)
+}
+
+#[tactic(auto, unfolding(byte_machine::specs::Header::type_next))]
+pub fn type_next(h: Held) -> Result<Done, ChunkRefusal>
+    ensures { told result ≡ done_of h (type_next (setting_in h) (reader_from h)) }
+{
+    field_or(h, HeaderField::MessageTypeId, stream_next)
+}
+
+#[tactic(auto, unfolding(byte_machine::specs::Header::length_next))]
+pub fn length_next(h: Held) -> Result<Done, ChunkRefusal>
+    ensures { told result ≡ done_of h (length_next (setting_in h) (reader_from h)) }
+{
+    field_or(h, HeaderField::MessageLength, type_next)
+}
+
+#[tactic(auto, unfolding(byte_machine::specs::Header::timestamp_next))]
+pub fn timestamp_next(h: Held) -> Result<Done, ChunkRefusal>
+    ensures { told result ≡ done_of h (timestamp_next (setting_in h) (reader_from h)) }
+{
+    field_or(h, HeaderField::Timestamp, length_next)
 }
