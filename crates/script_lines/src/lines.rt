@@ -1,6 +1,7 @@
 // Lines of standard input, in a buffer of fixed length.
+ghost use Rattle.script_lines.specs.Lines.{Begins};
 ghost use Rattle.script_lines.specs.declared.lines.TheConstants.{INPUT_LENGTH};
-ghost use Rattle.std.specs.Prelude.{◌≡◌, ℕ, ◌≤◌, List, [], take};
+ghost use Rattle.std.specs.Prelude.{◌≡◌, ℕ, ◌-◌, ◌≤◌, List, [], drop, length, take};
 
 use std::io;
 use std::io::Read;
@@ -17,6 +18,16 @@ pub fn is_skipped(line: &[u8]) -> bool {
     match line {
         [] => true,
         [first, ..] => *first == b'#' && line.len() <= LONGEST_LINE,
+    }
+}
+
+// Where in what was read the line begins that has no end yet.
+fn unfinished(read: &[u8]) -> usize
+    ensures { Begins read.now result }
+{
+    match read.iter().rposition(|byte| *byte == b'\n') {
+        Some(end) => end + 1,
+        None => 0,
     }
 }
 
@@ -55,9 +66,10 @@ impl Lines {
     }
 
     // Lets the whole lines go, reads more behind what begins a line, once, and answers whether anything came.
-    pub fn read_more(&mut self, rt: &impl Input) -> io::Result<bool> {
-        let last_end = self.read().iter().rposition(|byte| *byte == b'\n');
-        let start = last_end.map_or(0, |end| end + 1);
+    pub fn read_more(&mut self, rt: &impl Input) -> io::Result<bool>
+        ensures { (k : ℕ) × Begins self.old k × (take (length self.old - k) self.new ≡ drop k self.old) }
+    {
+        let start = unfinished(self.read());
         self.bytes.copy_within(start..self.filled, 0);
         self.filled -= start;
         let count = rt.reader().read(&mut self.bytes[self.filled..])?;
