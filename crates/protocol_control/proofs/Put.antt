@@ -1,9 +1,5 @@
 -- The bodies of one number and of two, put at the start of an output that is long enough: each number stands straight after the one before.
-use Prim.Native.Nat.{ℕ, ◌+◌, ◌≤◌}
-use mathlib.Core.List.{List, [], ◌++◌}
-use mathlib.Core.Path.{◌≡◌, refl}
-use native.Mathlib.Omega.{arith}
-use lib.ListN.{length, length-append}
+use Rattle.std.proofs.Common.{◌≡◌, ℕ, ◌+◌, ◌≤◌, List, [], ◌++◌, length, refl, arith, length-append}
 use Rattle.fields.specs.Endian.{big_endian}
 use Rattle.fields.specs.Output.{over, stored}
 use Rattle.fields.proofs.Endian.{length_big}

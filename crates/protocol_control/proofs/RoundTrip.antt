@@ -1,13 +1,6 @@
 -- Reading what was written gives the body's numbers back whatever follows it, and what reads as a body is what writing it gives: each
 -- number by its own bytes.
-use Prim.Native.Nat.{ℕ, ◌^◌, ◌≤◌, ◌<◌}
-use mathlib.Core.Bool.{Bool, true, false, cond}
-use mathlib.Core.List.{List, ◌++◌, append_assoc}
-use mathlib.Core.Path.{◌≡◌, refl, sym, ap, ◌∙◌}
-use native.Mathlib.Omega.{arith}
-use lib.ListN.{length, take, drop, get_or, length-append, length-drop}
-use lib.Seq.{take_at, drop_at, take-add}
-use borrow.Author.Tests.{ltb-false}
+use Rattle.std.proofs.Common.{◌≡◌, ℕ, ◌^◌, ◌<◌, ◌≤◌, Bool, true, false, cond, List, ◌++◌, length, get_or, take, drop, sym, refl, ap, ◌∙◌, append_assoc, arith, length-append, length-drop, take_at, take-add, drop_at, ltb-false}
 use Rattle.fields.specs.Endian.{Bytes, big_endian}
 use Rattle.fields.specs.Output.{over}
 use Rattle.fields.specs.Writing.{Outcome, lacks, outcome, refuse, writing, wrote}
@@ -15,21 +8,9 @@ use Rattle.fields.specs.Writing.{refused as not_written}
 use Rattle.fields.proofs.Endian.{length_big, number_big}
 use Rattle.fields.proofs.Lists.{big_take, bytes_drop}
 use Rattle.protocol_control.specs.declared.Kind.{Kind}
-use Rattle.protocol_control.specs.declared.Kind.TheVariants.{
-  SetChunkSize as set_chunk_size,
-  Abort as abort,
-  Acknowledgement as acknowledgement,
-  WindowAcknowledgement as window_acknowledgement,
-  SetPeerBandwidth as set_peer_bandwidth,
-}
+use Rattle.protocol_control.specs.declared.Kind.TheVariants.{SetChunkSize as set_chunk_size, Abort as abort, Acknowledgement as acknowledgement, WindowAcknowledgement as window_acknowledgement, SetPeerBandwidth as set_peer_bandwidth}
 use Rattle.protocol_control.specs.declared.ProtocolControl.{ProtocolControl}
-use Rattle.protocol_control.specs.declared.ProtocolControl.TheVariants.{
-  SetChunkSize,
-  Abort,
-  Acknowledgement,
-  WindowAcknowledgement,
-  SetPeerBandwidth,
-}
+use Rattle.protocol_control.specs.declared.ProtocolControl.TheVariants.{SetChunkSize, Abort, Acknowledgement, WindowAcknowledgement, SetPeerBandwidth}
 use Rattle.protocol_control.specs.Answer.{listed, refused}
 use Rattle.protocol_control.specs.Body.{body, body_length, kind_of, numbers}
 use Rattle.protocol_control.specs.Limits.{outside}

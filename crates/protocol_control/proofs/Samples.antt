@@ -1,22 +1,9 @@
 -- The definitions at small bodies, computed: each body, each refusal at its edge, and their order.
-use mathlib.Core.List.{[], ◌∷◌}
-use mathlib.Core.Path.{◌≡◌, refl}
+use Rattle.std.proofs.Common.{◌≡◌, [], ◌∷◌, refl}
 use Rattle.fields.specs.Endian.{big_endian, gather}
 use Rattle.fields.specs.Writing.{outcome, refuse, writing, wrote}
-use Rattle.protocol_control.specs.declared.Kind.TheVariants.{
-  SetChunkSize as set_chunk_size,
-  Abort as abort,
-  Acknowledgement as acknowledgement,
-  WindowAcknowledgement as window_acknowledgement,
-  SetPeerBandwidth as set_peer_bandwidth,
-}
-use Rattle.protocol_control.specs.declared.ProtocolControl.TheVariants.{
-  SetChunkSize,
-  Abort,
-  Acknowledgement,
-  WindowAcknowledgement,
-  SetPeerBandwidth,
-}
+use Rattle.protocol_control.specs.declared.Kind.TheVariants.{SetChunkSize as set_chunk_size, Abort as abort, Acknowledgement as acknowledgement, WindowAcknowledgement as window_acknowledgement, SetPeerBandwidth as set_peer_bandwidth}
+use Rattle.protocol_control.specs.declared.ProtocolControl.TheVariants.{SetChunkSize, Abort, Acknowledgement, WindowAcknowledgement, SetPeerBandwidth}
 use Rattle.protocol_control.specs.Answer.{control, refused}
 use Rattle.protocol_control.specs.Body.{body}
 use Rattle.protocol_control.specs.Limits.{outside}

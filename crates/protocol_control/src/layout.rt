@@ -32,18 +32,17 @@ pub fn put_body(control: ProtocolControl, output: &mut [u8])
     ensures { output.new ≡ over (body control) output.old }
 {
     match control {
-        ProtocolControl::SetChunkSize { size } => put_number(size, 4, output, 0),
-        ProtocolControl::Abort { stream_id } => put_number(stream_id, 4, output, 0),
-        ProtocolControl::Acknowledgement { sequence_number } => put_number(
-            sequence_number,
-            4,
-            output,
-            0,
+        ProtocolControl::SetChunkSize { size: number }
+        | ProtocolControl::Abort { stream_id: number }
+        | ProtocolControl::Acknowledgement {
+            sequence_number: number,
+        }
+        | ProtocolControl::WindowAcknowledgement { size: number } => put_number(
+            number, 4, output, 0,
         ),
-        ProtocolControl::WindowAcknowledgement { size } => put_number(size, 4, output, 0),
         ProtocolControl::SetPeerBandwidth { size, limit_type } => {
             put_number(size, 4, output, 0);
-            put_number(limit_type, 1, output, 4)
+            put_number(limit_type, 1, output, 4);
         }
     }
 }

@@ -12,24 +12,17 @@ const LARGEST_LIMIT_TYPE: u32 = 2;
 pub fn is_no_size(size: u32) -> bool
     ensures { result ≡ no_size size }
 {
-    if size == 0 {
-        return true;
-    }
-    LARGEST_CHUNK_SIZE < size
+    !(1..=LARGEST_CHUNK_SIZE).contains(&size)
 }
 
 // Whether a number is outside its limits.
+#[tactic(auto, unfolding(crate::specs::Limits::outside))]
 pub fn is_outside(control: ProtocolControl) -> bool
     ensures { result ≡ outside control }
 {
     match control {
         ProtocolControl::SetChunkSize { size } => is_no_size(size),
-        ProtocolControl::Abort { stream_id: _ } => false,
-        ProtocolControl::Acknowledgement { sequence_number: _ } => false,
-        ProtocolControl::WindowAcknowledgement { size: _ } => false,
-        ProtocolControl::SetPeerBandwidth {
-            size: _,
-            limit_type,
-        } => LARGEST_LIMIT_TYPE < limit_type,
+        ProtocolControl::SetPeerBandwidth { limit_type, .. } => limit_type > LARGEST_LIMIT_TYPE,
+        _ => false,
     }
 }

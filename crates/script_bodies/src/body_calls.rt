@@ -1,5 +1,5 @@
 // The calls of protocol control bodies.
-use protocol_control::{Deserialized, Kind, ProtocolControl, Serialized};
+use protocol_control::{Kind, ProtocolControl};
 use script_said::Said;
 use script_text::{Call, read_call, word};
 use test_parts::part;
@@ -45,9 +45,8 @@ fn told(control: ProtocolControl) -> Said {
 // Reads a body of this kind.
 fn read(kind: Kind, body: &[u8]) -> Said {
     match protocol_control::deserialize(kind, body) {
-        Deserialized::Control(control) => told(control),
-        Deserialized::BodyTooShort => Said::refused(15),
-        Deserialized::OutOfLimits => Said::refused(16),
+        Ok(control) => told(control),
+        Err(error) => Said::refused(error.number()),
     }
 }
 
@@ -58,9 +57,8 @@ fn write(control: ProtocolControl, out: u32, output: &mut [u8]) -> Said {
         return Said::bad();
     }
     match protocol_control::serialize(control, &mut output[0..lent]) {
-        Serialized::Written(count) => Said::wrote(count),
-        Serialized::OutOfLimits => Said::refused(16),
-        Serialized::OutputTooShort => Said::refused(5),
+        Ok(count) => Said::wrote(count),
+        Err(error) => Said::refused(error.number()),
     }
 }
 

@@ -3,7 +3,7 @@ use script_said::Said;
 use script_text::{Call, EVENTS, read_call, word};
 use test_parts::part;
 use time::RtmpTimestamp;
-use user_control::{Deserialized, Serialized, UserControlEvent};
+use user_control::UserControlEvent;
 
 // The place of the event's name among those that have one number; 8 for the other.
 fn name_place(event: UserControlEvent) -> usize {
@@ -55,9 +55,8 @@ fn told(event: UserControlEvent) -> Said {
 // Reads a body.
 fn read(body: &[u8]) -> Said {
     match user_control::deserialize(body) {
-        Deserialized::Event(event) => told(event),
-        Deserialized::BodyTooShort => Said::refused(15),
-        Deserialized::UnknownCode => Said::refused(16),
+        Ok(event) => told(event),
+        Err(error) => Said::refused(error.number()),
     }
 }
 
@@ -68,8 +67,8 @@ fn write(event: UserControlEvent, out: u32, output: &mut [u8]) -> Said {
         return Said::bad();
     }
     match user_control::serialize(event, &mut output[0..lent]) {
-        Serialized::Written(count) => Said::wrote(count),
-        Serialized::OutputTooShort => Said::refused(5),
+        Ok(count) => Said::wrote(count),
+        Err(error) => Said::refused(error.number()),
     }
 }
 

@@ -1,7 +1,7 @@
 // The calls of settings.
 use script_said::Said;
 use script_text::{Call, read_call};
-use settings::{Reading, Settings, Version, Writing};
+use settings::{Settings, Version};
 use test_parts::part;
 
 // What a number says that is to be a version.
@@ -30,11 +30,8 @@ fn told(settings: Settings, used: usize) -> Said {
 // Reads a record by a reader of this version.
 fn read(reader: Version, bytes: &[u8]) -> Said {
     match settings::read(reader, bytes) {
-        Reading::Read { settings, used } => told(settings, used),
-        Reading::TooShort => Said::refused(25),
-        Reading::UnknownVersion(_) => Said::refused(26),
-        Reading::WrongLength => Said::refused(27),
-        Reading::OutOfLimits => Said::refused(28),
+        Ok(stored) => told(stored.settings, stored.used),
+        Err(error) => Said::refused(error.number()),
     }
 }
 
@@ -45,9 +42,8 @@ fn write(version: Version, settings: Settings, out: u32, output: &mut [u8]) -> S
         return Said::bad();
     }
     match settings::write(version, settings, &mut output[0..lent]) {
-        Writing::Written(count) => Said::wrote(count),
-        Writing::OutOfLimits => Said::refused(28),
-        Writing::OutputTooShort => Said::refused(5),
+        Ok(count) => Said::wrote(count),
+        Err(error) => Said::refused(error.number()),
     }
 }
 

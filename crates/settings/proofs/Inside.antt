@@ -1,11 +1,6 @@
 -- Inside the limits a chunk size and a room fit their four bytes, so only the kind's width says whether a version can hold settings.
-use Prim.Native.Nat.{ℕ, zero, suc, ◌^◌, ◌≤◌}
-use mathlib.Core.Bool.{Bool, true, false, ◌&&◌}
-use mathlib.Core.Logic.{◌≢◌}
-use mathlib.Core.Path.{◌≡◌, refl, sym, ◌∙◌}
-use native.Mathlib.Omega.{arith}
-use lib.Dec.{eqb, ltb}
-use borrow.Author.Tests.{eqb-false, eqb-true, le-ltb, lt-ltb, ltb-false, ne_eqb}
+use Rattle.std.proofs.Common.{◌≡◌, ℕ, zero, suc, ◌^◌, ◌≤◌, Bool, true, false, ◌&&◌, eqb, ltb, ◌≢◌, sym, refl, ◌∙◌, arith, ltb-false, le-ltb, lt-ltb, ne_eqb, eqb-true}
+use borrow.Author.Tests.{eqb-false}
 use Rattle.fields.proofs.Tests.{clash, neither}
 use Rattle.chunk_header.specs.Limits.{max_length, max_size}
 use Rattle.settings.specs.declared.Settings.{Settings}

@@ -1,14 +1,7 @@
 -- Numbers of given widths, written and read again, and bytes read and written again: both go number by number.
-use Prim.Native.Nat.{ℕ, ◌^◌, ◌≤◌}
-use mathlib.Core.Bool.{true, and-eq-true_iff}
-use mathlib.Core.List.{List, [], ◌∷◌, ◌++◌, append_assoc}
-use mathlib.Core.Path.{◌≡◌, refl}
-use native.Mathlib.Nat.{lt_of_lt_of_le, pow-le-pow_right}
-use native.Mathlib.Omega.{arith}
-use lib.Dec.{lit<, ltb}
-use lib.ListN.{length, take, drop, length-drop, length-take}
-use lib.Seq.{drop_at, take-add, take_at}
-use borrow.Author.Tests.{lt-ltb, ltb-true}
+use Rattle.std.proofs.Common.{◌≡◌, ℕ, ◌^◌, ◌≤◌, true, ltb, List, [], ◌∷◌, ◌++◌, length, take, drop, refl, append_assoc, lt_of_lt_of_le, arith, lit<, length-drop, length-take, take_at, take-add, drop_at, ltb-true, lt-ltb}
+use mathlib.Core.Bool.{and-eq-true_iff}
+use native.Mathlib.Nat.{pow-le-pow_right}
 use Rattle.fields.specs.Endian.{Bytes, big_endian, number}
 use Rattle.fields.proofs.Endian.{length_big, number_big, number_lt}
 use Rattle.fields.proofs.Lists.{big_take, bytes_drop, bytes_take}

@@ -1,11 +1,7 @@
 -- What readers of two versions make of the same bytes: the version byte alone tells them apart.
-use Prim.Native.Nat.{ℕ, ◌≤◌, ◌<◌}
-use mathlib.Core.Bool.{false, and-eq-true_iff, not}
-use mathlib.Core.List.{List, ◌++◌}
-use mathlib.Core.Path.{◌≡◌}
-use native.Mathlib.Omega.{arith}
-use lib.Dec.{eqb, leb}
-use borrow.Author.Tests.{eqb-false, le-leb, leb-true, lt-leb, ne_eqb, not-true}
+use Rattle.std.proofs.Common.{◌≡◌, ℕ, ◌<◌, ◌≤◌, false, not, eqb, leb, List, ◌++◌, arith, ne_eqb, le-leb, leb-true}
+use mathlib.Core.Bool.{and-eq-true_iff}
+use borrow.Author.Tests.{eqb-false, lt-leb, not-true}
 use Rattle.fields.specs.Endian.{Bytes}
 use Rattle.settings.specs.declared.Settings.{Settings}
 use Rattle.settings.specs.Answer.{settings, refused_version}

@@ -1,23 +1,12 @@
 -- How long the parts of a record are: a kind has a byte at most, and each number as many bytes as its width says.
-use Prim.Native.Nat.{ℕ, zero, suc, ◌+◌, ◌≤◌, ◌<◌}
-use mathlib.Core.Path.{◌≡◌, refl}
-use native.Mathlib.Omega.{arith}
-use mathlib.Core.List.{List}
-use lib.ListN.{length, take, length-append, length-take}
-use native.Mathlib.Nat.{lt_of_lt_of_le, pow-le-pow_right}
-use lib.Dec.{lit<}
+use Rattle.std.proofs.Common.{◌≡◌, ℕ, zero, suc, ◌+◌, ◌<◌, ◌≤◌, List, length, take, lt_of_lt_of_le, arith, lit<, length-append, length-take}
+use native.Mathlib.Nat.{pow-le-pow_right}
 use Rattle.fields.specs.Endian.{Bytes, big_endian}
 use Rattle.fields.proofs.Endian.{length_big, number_lt}
 use Rattle.fields.proofs.Lists.{bytes_take}
 use Rattle.settings.specs.Reading.{length_in}
 use Rattle.settings.specs.Record.{body_length, kind_width, record_of}
 use Rattle.settings.specs.declared.Settings.{Settings}
-
-pub kind_beyond : (version : ℕ) → 3 ≤ version → kind_width version ≡ 0
-kind_beyond zero h = absurd (omega arith)
-kind_beyond (suc zero) h = refl
-kind_beyond (suc (suc zero)) h = absurd (omega arith)
-kind_beyond (suc (suc (suc v))) h = refl
 
 pub kind_most : (version : ℕ) → kind_width version ≤ 1
 kind_most zero = omega arith

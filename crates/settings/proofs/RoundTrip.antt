@@ -1,13 +1,7 @@
 -- Reading what was written gives the settings back whatever follows, and what reads as settings is what writing them gives.
-use Prim.Native.Nat.{ℕ, suc, ◌+◌, ◌≤◌}
-use mathlib.Core.Bool.{Bool, true, false, and-eq-true_iff, cond, not}
-use mathlib.Core.List.{List, ◌∷◌, ◌++◌, append_assoc}
-use mathlib.Core.Path.{◌≡◌, refl, sym, ap, ◌∙◌}
-use native.Mathlib.Omega.{arith}
-use lib.Dec.{eqb, ltb}
-use lib.ListN.{length, take, drop, length-append, length-drop}
-use lib.Seq.{drop-cons, take-add, take_at}
-use borrow.Author.Tests.{eqb-true, le-ltb, ltb-false, ne_eqb, not-true}
+use Rattle.std.proofs.Common.{◌≡◌, ℕ, suc, ◌+◌, ◌≤◌, Bool, true, false, cond, not, eqb, ltb, List, ◌∷◌, ◌++◌, length, take, drop, sym, refl, ap, ◌∙◌, append_assoc, arith, length-append, length-drop, drop-cons, take_at, take-add, ltb-false, le-ltb, ne_eqb, eqb-true}
+use mathlib.Core.Bool.{and-eq-true_iff}
+use borrow.Author.Tests.{not-true}
 use Rattle.fields.specs.Endian.{Bytes, big_endian}
 use Rattle.fields.specs.Output.{over}
 use Rattle.fields.specs.Writing.{Outcome, lacks, outcome, refuse, writing, wrote}

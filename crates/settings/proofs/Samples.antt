@@ -1,7 +1,5 @@
 -- The definitions at small records, computed: each refusal at its edge, and what each reader makes of each version.
-use Prim.Native.Nat.{ℕ}
-use mathlib.Core.List.{List, [], ◌∷◌, ◌++◌}
-use mathlib.Core.Path.{◌≡◌, refl}
+use Rattle.std.proofs.Common.{◌≡◌, ℕ, List, [], ◌∷◌, ◌++◌, refl}
 use Rattle.fields.specs.Endian.{big_endian, gather}
 use Rattle.fields.specs.Writing.{refuse, writing}
 use Rattle.settings.specs.declared.Settings.{Settings}

@@ -1,11 +1,14 @@
 -- What a record means, and when it is refused (document 02, Thirteen: 25 to 28 in this order). Bytes after it are unread.
-use Rattle.std.specs.Prelude.{ℕ, ◌+◌, Bool, not, ◌&&◌, ◌||◌, List, [], ◌∷◌, ltb, leb, eqb, length, take, drop, get_or}
+use Rattle.std.specs.Prelude.{◌≡◌, ℕ, ◌+◌, Bool, false, not, ◌&&◌, ◌||◌, List, [], ◌∷◌, ltb, leb, eqb, length, take, drop, get_or, Result, Ok, Err}
 use Rattle.fields.specs.Cases.{◌when◌, first}
 use Rattle.fields.specs.Endian.{number}
 use Rattle.settings.specs.declared.Settings.{Settings}
+use Rattle.settings.specs.declared.Version.{Version}
+use Rattle.settings.specs.declared.error.ReadError.{ReadError}
+use Rattle.settings.specs.declared.error.ReadError.TheVariants.{UnknownVersion}
 use Rattle.settings.specs.Answer.{Answer, settings, refused, refused_version}
 use Rattle.settings.specs.Limits.{outside}
-use Rattle.settings.specs.Record.{body_length, widths}
+use Rattle.settings.specs.Record.{body_length, version_of, widths}
 
 -- the first two bytes, and the third
 abbrev pub length_in : List ℕ → ℕ
@@ -33,6 +36,11 @@ short bytes = ltb (length bytes) 3 || (eqb (length_in bytes) 0 || ltb (length by
 -- 1 to the newest version that a reader knows
 abbrev pub known : (newest version : ℕ) → Bool
 known newest v = not (eqb v 0) && leb v newest
+
+-- what a number names: the version that has it, where there is one
+abbrev pub Names : (number : ℕ) → Result Version ReadError → Type 0
+Names n (Ok v) = version_of v ≡ n
+Names n (Err e) = (e ≡ UnknownVersion n) × (known 2 n ≡ false)
 
 unfoldable pub reading : (newest : ℕ) → (bytes : List ℕ) → Answer
 reading newest bytes =

@@ -8,93 +8,80 @@ ghost use Rattle.settings.specs.Reading.{reading};
 ghost use Rattle.settings.specs.Record.{version_of};
 ghost use Rattle.settings.specs.Storing.{storing};
 
+mod error;
 mod layout;
 mod limits;
 mod parts;
+mod versions;
 
-use crate::layout::{body_length, is_known, put_record, version_number};
+pub use crate::error::{ReadError, WriteError};
+use crate::layout::{body_length, put_record};
 use crate::limits::{can_hold, is_outside};
-use crate::parts::{is_short, length_in, settings_in, version_in};
+use crate::parts::{is_short, length_in, settings_in};
+use crate::versions::known_version;
 
-// The versions of a record.
-#[derive(Clone, Copy)]
+// The versions of a record, by their numbers.
+#[derive(Clone, Copy, Debug, PartialEq, Eq)]
 pub enum Version {
-    One,
-    Two,
+    One = 1,
+    Two = 2,
 }
 
 // What a bank is set to.
-#[derive(Clone, Copy)]
+#[derive(Clone, Copy, Debug, PartialEq, Eq)]
 pub struct Settings {
     pub max_chunk_size: u32,
     pub room: u32,
     // 0, or 1 for older cameras
+    // Kept: a number and no enum, since `read` and `write` promise to refuse a larger one with 28 (`outside` in specs/Limits.antt)
     pub camera_kind: u32,
 }
 
-// What reading a record answers.
-#[derive(Clone, Copy)]
-pub enum Reading {
-    // the settings, and how many bytes their record has
-    Read { settings: Settings, used: usize },
-    // refusal 25
-    TooShort,
-    // refusal 26, with the version that it met
-    UnknownVersion(u8),
-    // refusal 27
-    WrongLength,
-    // refusal 28
-    OutOfLimits,
-}
-
-// What writing a record answers.
-#[derive(Clone, Copy)]
-pub enum Writing {
-    // so many bytes, the output's first
-    Written(usize),
-    // refusal 28
-    OutOfLimits,
-    // refusal 5
-    OutputTooShort,
+// What a record says, and how many bytes it has.
+#[derive(Clone, Copy, Debug, PartialEq, Eq)]
+pub struct Stored {
+    pub settings: Settings,
+    pub used: usize,
 }
 
 // Reads the record at the start of `bytes`, of a version up to the newest that the reader knows.
-pub fn read(newest: Version, bytes: &[u8]) -> Reading
+#[tactic(auto, unfolding(crate::specs::Reading::reading))]
+pub fn read(newest: Version, bytes: &[u8]) -> Result<Stored, ReadError>
     ensures { read_answer result ≡ reading (version_of newest) bytes.now }
 {
     if is_short(bytes) {
-        return Reading::TooShort;
+        return Err(ReadError::TooShort);
     }
-    let version = version_in(bytes);
-    if !is_known(newest, version) {
-        return Reading::UnknownVersion(version);
-    }
+    let number = bytes[2];
+    let Some(version) = known_version(newest, number) else {
+        return Err(ReadError::UnknownVersion(number));
+    };
     let length = length_in(bytes);
     if length != body_length(version) {
-        return Reading::WrongLength;
+        return Err(ReadError::WrongLength);
     }
     let settings = settings_in(version, bytes);
     if is_outside(settings) {
-        return Reading::OutOfLimits;
+        return Err(ReadError::OutOfLimits);
     }
-    Reading::Read {
+    Ok(Stored {
         settings,
         used: length + 2,
-    }
+    })
 }
 
-// Writes the record of this version at the start of `output`.
-pub fn write(version: Version, settings: Settings, output: &mut [u8]) -> Writing
+// Writes the record of this version at the start of `output`, and answers how many bytes it has.
+#[tactic(auto, using(crate::proofs::Record::length_record), unfolding(crate::specs::Storing::storing, fields::specs::Writing::writing))]
+pub fn write(version: Version, settings: Settings, output: &mut [u8]) -> Result<usize, WriteError>
     ensures { outcome (write_answer result) output.new ≡ storing (version_of version) settings output.old }
 {
-    let number = version_number(version);
-    if !can_hold(number, settings) {
-        return Writing::OutOfLimits;
+    if !can_hold(version, settings) {
+        return Err(WriteError::OutOfLimits);
     }
-    let needed = body_length(number) + 2;
+    let needed = body_length(version) + 2;
     if output.len() < needed {
-        return Writing::OutputTooShort;
+        return Err(WriteError::OutputTooShort);
     }
-    put_record(number, settings, output);
-    Writing::Written(needed)
+    put_record(version, settings, output);
+    Ok(needed)
 }

@@ -1,9 +1,10 @@
 // The parts of a record.
 ghost use Rattle.std.specs.Prelude.{◌≡◌};
-ghost use Rattle.settings.specs.Reading.{length_in, settings_in, short, version_in};
+ghost use Rattle.settings.specs.Reading.{length_in, settings_in, short};
+ghost use Rattle.settings.specs.Record.{version_of};
 
-use crate::Settings;
 use crate::layout::kind_width;
+use crate::{Settings, Version};
 use fields::number_at;
 
 // The length of what follows it.
@@ -17,29 +18,13 @@ pub fn length_in(bytes: &[u8]) -> usize
 pub fn is_short(bytes: &[u8]) -> bool
     ensures { result ≡ short bytes.now }
 {
-    if bytes.len() < 3 {
-        return true;
-    }
     let length = length_in(bytes);
-    if length == 0 {
-        return true;
-    }
-    bytes.len() < length + 2
-}
-
-// The version; 0, which there is not, where the bytes end before it.
-pub fn version_in(bytes: &[u8]) -> u8
-    ensures { result ≡ version_in bytes.now }
-{
-    if bytes.len() < 3 {
-        return 0;
-    }
-    bytes[2]
+    bytes.len() < 3 || length == 0 || bytes.len() < length + 2
 }
 
 // The settings in a record of this version: a kind of no bytes is 0.
-pub fn settings_in(version: u8, bytes: &[u8]) -> Settings
-    ensures { result ≡ settings_in version bytes.now }
+pub fn settings_in(version: Version, bytes: &[u8]) -> Settings
+    ensures { result ≡ settings_in (version_of version) bytes.now }
 {
     Settings {
         max_chunk_size: number_at(bytes, 3, 4),

@@ -1,14 +1,8 @@
 -- Codes that no event has: those past the table, and those that are none of the known ones.
-use Prim.Native.Nat.{ℕ, ◌≤◌, ◌<◌}
-use mathlib.Core.Path.{◌≡◌, refl}
-use mathlib.Core.Logic.{◌≢◌}
-use mathlib.Core.Bool.{Bool, true, false, false≢true, ◌&&◌, cond}
-use mathlib.Core.List.{List, [], ◌∷◌}
-use native.Mathlib.Omega.{arith}
-use lib.Dec.{ltb}
-use borrow.Author.Tests.{ne_eqb, ltb-true}
+use Rattle.std.proofs.Common.{◌≡◌, ℕ, ◌≤◌, Bool, true, false, cond, ◌&&◌, ltb, ◌≢◌, List, [], ◌∷◌, Some, None, refl, arith, ltb-true, ne_eqb}
+use mathlib.Core.Bool.{false≢true}
 use Rattle.fields.specs.Cases.{among}
-use Rattle.user_control.specs.Reading.{known, body_length, length_or0}
+use Rattle.user_control.specs.Reading.{known, body_length, length_of}
 
 -- each is below n
 abbrev below : ℕ → List ℕ → Bool
@@ -29,18 +23,42 @@ pub unknown_beyond : (c : ℕ) → 33 ≤ c → known c ≡ false
 unfolding known
 unknown_beyond c h = among_beyond c 33 (0 ∷ 1 ∷ 2 ∷ 3 ∷ 4 ∷ 6 ∷ 7 ∷ 31 ∷ 32 ∷ []) refl h
 
--- a body shorter than the table says has a known code
-pub short_known : (c n : ℕ) → n < length_or0 c → (known c ≡ true) × (n < body_length c)
-unfolding length_or0
-short_known c n h = go (known c) refl h
+-- what the table says of a code
+pub table_some : (c n : ℕ) → length_of c ≡ Some n → (known c ≡ true) × (n ≡ body_length c)
+unfolding length_of
+table_some c n h = go (known c) refl h
   where
-    go : (b : Bool) → known c ≡ b → n < cond b (body_length c) 0 → (known c ≡ true) × (n < body_length c)
-    go true e less = (e, less)
-    go false e less = absurd (omega arith)
+    go : (b : Bool) → known c ≡ b → cond b (Some (body_length c)) None ≡ Some n → (known c ≡ true) × (n ≡ body_length c)
+    go true e h = (e, cc)
+    go false e h = absurd (let z : ◌≡◌ {A = ℕ} 0 1 = cc in omega arith)
 
-pub known_length : (c : ℕ) → known c ≡ true → length_or0 c ≡ body_length c
-unfolding length_or0
-known_length c h = rw h
+pub table_none : (c : ℕ) → length_of c ≡ None → known c ≡ false
+unfolding length_of
+table_none c h = go (known c) refl h
+  where
+    go : (b : Bool) → known c ≡ b → cond b (Some (body_length c)) None ≡ None → known c ≡ false
+    go true e h = absurd (let z : ◌≡◌ {A = ℕ} 0 1 = cc in omega arith)
+    go false e h = e
+
+-- the table's entries: 0 where no event has the code
+unfoldable pub entry : ℕ → ℕ
+entry c = cond (known c) (body_length c) 0
+
+pub entry_none : (c : ℕ) → entry c ≡ 0 → length_of c ≡ None
+unfolding entry length_of
+entry_none c h = go (known c) h
+  where
+    go : (b : Bool) → cond b (body_length c) 0 ≡ 0 → cond b (Some (body_length c)) None ≡ None
+    go true e = absurd (omega (arith, e))
+    go false e = refl
+
+pub entry_some : (c : ℕ) → entry c ≢ 0 → length_of c ≡ Some (entry c)
+unfolding entry length_of
+entry_some c h = go (known c) h
+  where
+    go : (b : Bool) → cond b (body_length c) 0 ≢ 0 → cond b (Some (body_length c)) None ≡ Some (cond b (body_length c) 0)
+    go true e = refl
+    go false e = absurd (e refl)
 
 -- none of the nine
 pub unknown_other : (c : ℕ) → c ≢ 0 → c ≢ 1 → c ≢ 2 → c ≢ 3 → c ≢ 4 → c ≢ 6 → c ≢ 7 → c ≢ 31 → c ≢ 32 → known c ≡ false

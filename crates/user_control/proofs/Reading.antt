@@ -1,17 +1,9 @@
 -- The three ways a body of two bytes or more is answered.
-use Prim.Native.Nat.{ℕ, ◌≤◌, ◌<◌, ◌%◌, ◌^◌}
-use mathlib.Core.Path.{◌≡◌, sym, ◌∙◌}
-use mathlib.Core.Bool.{true, false}
-use mathlib.Core.List.{List, [], ◌∷◌}
-use native.Mathlib.Omega.{arith}
-use lib.ListN.{length, take, drop}
-use lib.Seq.{drop-drop}
-use borrow.Author.Tests.{lt-ltb, le-ltb}
+use Rattle.std.proofs.Common.{◌≡◌, ℕ, ◌%◌, ◌^◌, ◌<◌, ◌≤◌, true, false, List, [], ◌∷◌, length, take, drop, sym, ◌∙◌, arith, drop-drop, le-ltb, lt-ltb}
 use Rattle.fields.specs.Endian.{number, Bytes}
 use Rattle.fields.proofs.Lists.{part_fits}
 use Rattle.user_control.specs.Answer.{event, refused}
-use Rattle.user_control.proofs.Codes.{short_known}
-use Rattle.user_control.specs.Reading.{code_in, numbers_in, known, count, body_length, length_or0, reading}
+use Rattle.user_control.specs.Reading.{code_in, numbers_in, known, count, body_length, reading}
 
 module _ (bytes : List ℕ) (two : 2 ≤ length bytes) where
   pub reads_event : (k : ℕ) → code_in bytes ≡ k → known k ≡ true → body_length k ≤ length bytes
@@ -23,11 +15,9 @@ module _ (bytes : List ℕ) (two : 2 ≤ length bytes) where
   unfolding reading
   reads_unknown h = simp (h, le-ltb (length bytes) 2 two)
 
-  pub reads_short : length bytes < length_or0 (code_in bytes) → reading bytes ≡ refused 15
+  pub reads_short : known (code_in bytes) ≡ true → length bytes < body_length (code_in bytes) → reading bytes ≡ refused 15
   unfolding reading
-  reads_short h =
-      let s = short_known (code_in bytes) (length bytes) h in
-      simp (le-ltb (length bytes) 2 two, s.0, lt-ltb (length bytes) (body_length (code_in bytes)) s.1)
+  reads_short k h = simp (le-ltb (length bytes) 2 two, k, lt-ltb (length bytes) (body_length (code_in bytes)) h)
 
 -- the same of the numbers as they are read, modulo 2 ^ 32
 module _ (bytes : List ℕ) (B : Bytes bytes) (two : 2 ≤ length bytes) where

@@ -1,37 +1,16 @@
 -- Reading what was written gives the event back whatever follows it, and writing what was read gives the body's own bytes:
 -- both go number by number, and a number by its four bytes.
-use Prim.Native.Nat.{ℕ, zero, suc, ◌+◌, ◌*◌, ◌^◌, ◌≤◌, ◌<◌}
-use mathlib.Core.Path.{◌≡◌, refl, ◌∙◌}
-use mathlib.Core.Bool.{Bool, true, false, not, cond, ◌&&◌, ◌||◌}
-use mathlib.Core.List.{List, [], ◌∷◌, ◌++◌, append_assoc}
-use native.Mathlib.Omega.{arith}
-use lib.Dec.{ltb, lit<}
-use lib.ListN.{length, take, drop, get_or, length-append, length-drop}
-use lib.Seq.{take_at, drop_at, take-add}
-use borrow.Author.Tests.{ltb-false}
+use Rattle.std.proofs.Common.{◌≡◌, ℕ, zero, suc, ◌+◌, ◌*◌, ◌^◌, ◌<◌, ◌≤◌, Bool, true, false, cond, not, ◌&&◌, ◌||◌, ltb, List, [], ◌∷◌, ◌++◌, length, get_or, take, drop, refl, ◌∙◌, append_assoc, arith, lit<, length-append, length-drop, take_at, take-add, drop_at, ltb-false}
 use Rattle.fields.specs.Endian.{big_endian, Bytes}
 use Rattle.fields.proofs.Endian.{length_big, number_big}
 use Rattle.fields.proofs.Lists.{bytes_drop, big_take}
 use Rattle.user_control.specs.declared.UserControlEvent.{UserControlEvent}
-use Rattle.user_control.specs.declared.UserControlEvent.TheVariants.{
-  StreamBegin,
-  StreamEof,
-  StreamDry,
-  SetBufferLength,
-  StreamIsRecorded,
-  PingRequest,
-  PingResponse,
-  BufferEmpty,
-  BufferReady,
-}
+use Rattle.user_control.specs.declared.UserControlEvent.TheVariants.{StreamBegin, StreamEof, StreamDry, SetBufferLength, StreamIsRecorded, PingRequest, PingResponse, BufferEmpty, BufferReady}
 use Rattle.user_control.specs.Body.{code, numbers, fours, body}
 use Rattle.user_control.specs.Answer.{event, refused}
 use Rattle.user_control.specs.Reading.{code_in, numbers_in, known, count, body_length, reading}
+use Rattle.user_control.proofs.Fours.{length_fours}
 use Rattle.user_control.proofs.Reading.{reads_event}
-
-length_fours : (ns : List ℕ) → length (fours ns) ≡ 4 * length ns
-length_fours [] = refl
-length_fours (n ∷ ns) = rw (length-append, length_big, length_fours ns) (omega arith)
 
 numbers_fours : (ns rest : List ℕ) → ((i : ℕ) → get_or ns i 0 < 2 ^ 32) → numbers_in (length ns) (fours ns ++ rest) ≡ ns
 numbers_fours [] rest h = refl

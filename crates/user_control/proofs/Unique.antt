@@ -1,30 +1,15 @@
 -- Both listings decide their answers, since these can be told from them.
-use Prim.Native.Nat.{ℕ}
-use mathlib.Core.Path.{◌≡◌, refl}
-use mathlib.Core.Bool.{cond}
-use mathlib.Core.List.{List}
-use lib.Dec.{eqb}
-use lib.ListN.{get_or}
+use Rattle.std.proofs.Common.{◌≡◌, ℕ, cond, eqb, List, get_or, Ok, Err, Result, refl}
 use Rattle.fields.specs.Deciding.{Decides}
 use Rattle.fields.specs.Writing.{Wrote, wrote}
 use Rattle.fields.specs.Writing.{refused as not_written}
 use Rattle.fields.proofs.Deciding.{told_decides}
 use Rattle.user_control.specs.declared.UserControlEvent.{UserControlEvent}
-use Rattle.user_control.specs.declared.UserControlEvent.TheVariants.{
-  StreamBegin,
-  StreamEof,
-  StreamDry,
-  SetBufferLength,
-  StreamIsRecorded,
-  PingRequest,
-  PingResponse,
-  BufferEmpty,
-  BufferReady,
-}
-use Rattle.user_control.specs.declared.Deserialized.{Deserialized}
-use Rattle.user_control.specs.declared.Deserialized.TheVariants.{Event, BodyTooShort, UnknownCode}
-use Rattle.user_control.specs.declared.Serialized.{Serialized}
-use Rattle.user_control.specs.declared.Serialized.TheVariants.{Written, OutputTooShort}
+use Rattle.user_control.specs.declared.UserControlEvent.TheVariants.{StreamBegin, StreamEof, StreamDry, SetBufferLength, StreamIsRecorded, PingRequest, PingResponse, BufferEmpty, BufferReady}
+use Rattle.user_control.specs.declared.error.ReadError.{ReadError}
+use Rattle.user_control.specs.declared.error.ReadError.TheVariants.{BodyTooShort, UnknownCode}
+use Rattle.user_control.specs.declared.error.WriteError.{WriteError}
+use Rattle.user_control.specs.declared.error.WriteError.TheVariants.{OutputTooShort}
 use Rattle.user_control.specs.Answer.{Answer, event, refused, read_answer, write_answer}
 
 -- the event of a code and its numbers
@@ -41,11 +26,11 @@ told c ns =
     (cond (eqb c 31) (BufferEmpty n)
     (BufferReady n))))))))
 
-abbrev read : Answer → Deserialized
-read (event c ns) = Event (told c ns)
-read (refused k) = cond (eqb k 15) BodyTooShort UnknownCode
+abbrev read : Answer → Result UserControlEvent ReadError
+read (event c ns) = Ok (told c ns)
+read (refused k) = cond (eqb k 15) (Err BodyTooShort) (Err UnknownCode)
 
-told_read : (e : UserControlEvent) → read (read_answer (Event e)) ≡ Event e
+told_read : (e : UserControlEvent) → read (read_answer (Ok e)) ≡ Ok e
 told_read (StreamBegin s) = refl
 told_read (StreamEof s) = refl
 told_read (StreamDry s) = refl
@@ -56,22 +41,22 @@ told_read (PingResponse t) = refl
 told_read (BufferEmpty s) = refl
 told_read (BufferReady s) = refl
 
-read_back : (r : Deserialized) → read (read_answer r) ≡ r
-read_back (Event e) = told_read e
-read_back BodyTooShort = refl
-read_back UnknownCode = refl
+read_back : (r : Result UserControlEvent ReadError) → read (read_answer r) ≡ r
+read_back (Ok e) = told_read e
+read_back (Err BodyTooShort) = refl
+read_back (Err UnknownCode) = refl
 
 pub read_decides : Decides read_answer
 read_decides = told_decides read_answer read read_back
 
 -- what was written
-abbrev written : Wrote → Serialized
-written (wrote n) = Written n
-written (not_written k) = OutputTooShort
+abbrev written : Wrote → Result ℕ WriteError
+written (wrote n) = Ok n
+written (not_written k) = Err OutputTooShort
 
-written_back : (r : Serialized) → written (write_answer r) ≡ r
-written_back (Written n) = refl
-written_back OutputTooShort = refl
+written_back : (r : Result ℕ WriteError) → written (write_answer r) ≡ r
+written_back (Ok n) = refl
+written_back (Err OutputTooShort) = refl
 
 pub write_decides : Decides write_answer
 write_decides = told_decides write_answer written written_back

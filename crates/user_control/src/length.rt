@@ -1,6 +1,6 @@
 // Body lengths by control code.
 ghost use Rattle.std.specs.Prelude.{◌≡◌};
-ghost use Rattle.user_control.specs.Reading.{length_or0};
+ghost use Rattle.user_control.specs.Reading.{length_of};
 
 // 0: no event has the code.
 const BODY_LENGTHS: [usize; 33] = [
@@ -8,12 +8,14 @@ const BODY_LENGTHS: [usize; 33] = [
     6, 6,
 ];
 
-pub fn body_length(code: u32) -> usize
-    ensures { result ≡ length_or0 code }
+pub fn body_length(code: u32) -> Option<usize>
+    ensures { result ≡ length_of code }
 {
-    if code < 33 {
-        let at = code as usize;
-        return BODY_LENGTHS[at];
+    if code >= 33 {
+        return None;
     }
-    0
+    match BODY_LENGTHS[code as usize] {
+        0 => None,
+        length => Some(length),
+    }
 }

@@ -7,16 +7,18 @@ ghost use Rattle.user_control.specs.Answer.{read_answer, write_answer};
 ghost use Rattle.user_control.specs.Body.{body};
 ghost use Rattle.user_control.specs.Reading.{reading};
 
+mod error;
 mod length;
 mod write;
 
+pub use crate::error::{ReadError, WriteError};
 use crate::length::body_length;
-use crate::write::{write_length_event, write_stream_event, write_timestamp_event};
+use crate::write::write_numbers;
 use fields::number_at;
 use time::RtmpTimestamp;
 
 // One case for each event, with exactly its numbers.
-#[derive(Clone, Copy)]
+#[derive(Clone, Copy, Debug, PartialEq, Eq)]
 pub enum UserControlEvent {
     StreamBegin { stream_id: u32 },
     StreamEof { stream_id: u32 },
@@ -29,78 +31,58 @@ pub enum UserControlEvent {
     BufferReady { stream_id: u32 },
 }
 
-// What reading a body answers.
-#[derive(Clone, Copy)]
-pub enum Deserialized {
-    Event(UserControlEvent),
-    // refusal 15
-    BodyTooShort,
-    // refusal 16
-    UnknownCode,
-}
-
-// What writing a body answers.
-#[derive(Clone, Copy)]
-pub enum Serialized {
-    // so many bytes, the output's first
-    Written(usize),
-    // refusal 5
-    OutputTooShort,
-}
-
 // Reads the body at the start of `bytes`.
-pub fn deserialize(bytes: &[u8]) -> Deserialized
+pub fn deserialize(bytes: &[u8]) -> Result<UserControlEvent, ReadError>
     ensures { read_answer result ≡ reading bytes.now }
 {
     if bytes.len() < 2 {
-        return Deserialized::BodyTooShort;
+        return Err(ReadError::BodyTooShort);
     }
     let code = number_at(bytes, 0, 2);
-    let needed = body_length(code);
+    let needed = body_length(code).ok_or(ReadError::UnknownCode)?;
     if bytes.len() < needed {
-        return Deserialized::BodyTooShort;
+        return Err(ReadError::BodyTooShort);
     }
-    let number = number_at(bytes, 2, 4);
-    let timestamp = RtmpTimestamp::new(number);
+    let stream_id = number_at(bytes, 2, 4);
+    let timestamp = RtmpTimestamp::new(stream_id);
+    let buffer_length = number_at(bytes, 6, 4);
     match code {
-        0 => Deserialized::Event(UserControlEvent::StreamBegin { stream_id: number }),
-        1 => Deserialized::Event(UserControlEvent::StreamEof { stream_id: number }),
-        2 => Deserialized::Event(UserControlEvent::StreamDry { stream_id: number }),
-        3 => Deserialized::Event(UserControlEvent::SetBufferLength {
-            stream_id: number,
-            buffer_length: number_at(bytes, 6, 4),
+        0 => Ok(UserControlEvent::StreamBegin { stream_id }),
+        1 => Ok(UserControlEvent::StreamEof { stream_id }),
+        2 => Ok(UserControlEvent::StreamDry { stream_id }),
+        3 => Ok(UserControlEvent::SetBufferLength {
+            stream_id,
+            buffer_length,
         }),
-        4 => Deserialized::Event(UserControlEvent::StreamIsRecorded { stream_id: number }),
-        6 => Deserialized::Event(UserControlEvent::PingRequest {
-            timestamp: timestamp,
-        }),
-        7 => Deserialized::Event(UserControlEvent::PingResponse {
-            timestamp: timestamp,
-        }),
-        31 => Deserialized::Event(UserControlEvent::BufferEmpty { stream_id: number }),
-        32 => Deserialized::Event(UserControlEvent::BufferReady { stream_id: number }),
-        _ => Deserialized::UnknownCode,
+        4 => Ok(UserControlEvent::StreamIsRecorded { stream_id }),
+        6 => Ok(UserControlEvent::PingRequest { timestamp }),
+        7 => Ok(UserControlEvent::PingResponse { timestamp }),
+        31 => Ok(UserControlEvent::BufferEmpty { stream_id }),
+        32 => Ok(UserControlEvent::BufferReady { stream_id }),
+        _ => unreachable!(),
     }
 }
 
-// Writes the body of `event` at the start of `output`.
-pub fn serialize(event: UserControlEvent, output: &mut [u8]) -> Serialized
+// Writes the body of `event` at the start of `output`, and answers how many bytes it has.
+pub fn serialize(event: UserControlEvent, output: &mut [u8]) -> Result<usize, WriteError>
     ensures { outcome (write_answer result) output.new ≡ writing (body event) output.old }
 {
     match event {
-        UserControlEvent::StreamBegin { stream_id } => write_stream_event(0, stream_id, output),
-        UserControlEvent::StreamEof { stream_id } => write_stream_event(1, stream_id, output),
-        UserControlEvent::StreamDry { stream_id } => write_stream_event(2, stream_id, output),
+        UserControlEvent::StreamBegin { stream_id } => write_numbers(0, &[stream_id], output),
+        UserControlEvent::StreamEof { stream_id } => write_numbers(1, &[stream_id], output),
+        UserControlEvent::StreamDry { stream_id } => write_numbers(2, &[stream_id], output),
         UserControlEvent::SetBufferLength {
             stream_id,
             buffer_length,
-        } => { write_length_event(3, stream_id, buffer_length, output) }
-        UserControlEvent::StreamIsRecorded { stream_id } => write_stream_event(
-            4, stream_id, output,
+        } => write_numbers(3, &[stream_id, buffer_length], output),
+        UserControlEvent::StreamIsRecorded { stream_id } => write_numbers(4, &[stream_id], output),
+        UserControlEvent::PingRequest { timestamp } => write_numbers(6, &[timestamp.value], output),
+        UserControlEvent::PingResponse { timestamp } => write_numbers(
+            7,
+            &[timestamp.value],
+            output,
         ),
-        UserControlEvent::PingRequest { timestamp } => write_timestamp_event(6, timestamp, output),
-        UserControlEvent::PingResponse { timestamp } => write_timestamp_event(7, timestamp, output),
-        UserControlEvent::BufferEmpty { stream_id } => write_stream_event(31, stream_id, output),
-        UserControlEvent::BufferReady { stream_id } => write_stream_event(32, stream_id, output),
+        UserControlEvent::BufferEmpty { stream_id } => write_numbers(31, &[stream_id], output),
+        UserControlEvent::BufferReady { stream_id } => write_numbers(32, &[stream_id], output),
     }
 }

@@ -1,50 +1,23 @@
 // The bodies as they are written: a code, then its numbers.
-ghost use Rattle.std.specs.Prelude.{◌≡◌, [], ◌∷◌};
+ghost use Rattle.std.specs.Prelude.{◌≡◌, ◌≤◌, length};
 ghost use Rattle.fields.specs.Writing.{outcome, writing};
 ghost use Rattle.user_control.specs.Answer.{write_answer};
 ghost use Rattle.user_control.specs.Body.{body_of};
-ghost use Rattle.user_control.specs.Reading.{length_or0};
 
-use crate::Serialized;
-use crate::length::body_length;
+use crate::WriteError;
 use fields::put_number;
-use time::RtmpTimestamp;
 
-pub fn write_stream_event(code: u32, stream_id: u32, output: &mut [u8]) -> Serialized
-    requires { length_or0 code ≡ 6 }
-    ensures { outcome (write_answer result) output.new ≡ writing (body_of code (stream_id ∷ [])) output.old }
+pub fn write_numbers(code: u32, numbers: &[u32], output: &mut [u8]) -> Result<usize, WriteError>
+    requires { length numbers.now ≤ 2 }
+    ensures { outcome (write_answer result) output.new ≡ writing (body_of code numbers.now) output.old }
 {
-    let needed = body_length(code);
+    let needed = 2 + 4 * numbers.len();
     if output.len() < needed {
-        return Serialized::OutputTooShort;
+        return Err(WriteError::OutputTooShort);
     }
     put_number(code, 2, output, 0);
-    put_number(stream_id, 4, output, 2);
-    Serialized::Written(needed)
-}
-
-pub fn write_timestamp_event(code: u32, timestamp: RtmpTimestamp, output: &mut [u8]) -> Serialized
-    requires { length_or0 code ≡ 6 }
-    ensures { outcome (write_answer result) output.new ≡ writing (body_of code (timestamp.value ∷ [])) output.old }
-{
-    write_stream_event(code, timestamp.value, output)
-}
-
-pub fn write_length_event(
-    code: u32,
-    stream_id: u32,
-    buffer_length: u32,
-    output: &mut [u8],
-) -> Serialized
-    requires { length_or0 code ≡ 10 }
-    ensures { outcome (write_answer result) output.new ≡ writing (body_of code (stream_id ∷ buffer_length ∷ [])) output.old }
-{
-    let needed = body_length(code);
-    if output.len() < needed {
-        return Serialized::OutputTooShort;
+    for (i, number) in numbers.iter().enumerate() {
+        put_number(*number, 4, output, 2 + 4 * i);
     }
-    put_number(code, 2, output, 0);
-    put_number(stream_id, 4, output, 2);
-    put_number(buffer_length, 4, output, 6);
-    Serialized::Written(needed)
+    Ok(needed)
 }

@@ -1,9 +1,5 @@
 -- Each number is of four bytes at most, so nothing of it is lost.
-use Prim.Native.Nat.{ℕ, ◌%◌, ◌^◌}
-use mathlib.Core.List.{List}
-use mathlib.Core.Path.{◌≡◌, ◌∙◌}
-use native.Mathlib.Omega.{arith}
-use lib.ListN.{take, drop}
+use Rattle.std.proofs.Common.{◌≡◌, ℕ, ◌%◌, ◌^◌, List, take, drop, ◌∙◌, arith}
 use Rattle.fields.specs.Endian.{number, Bytes}
 use Rattle.fields.proofs.Lists.{part_fits}
 use Rattle.protocol_control.specs.Reading.{four}

@@ -1,6 +1,5 @@
 -- Two bytes mean a number of 32 bits, so nothing of it is lost.
-use mathlib.Core.Path.{◌∙◌}
-use native.Mathlib.Omega.{arith}
+use Rattle.std.proofs.Common.{◌∙◌, arith}
 use Rattle.fields.specs.Endian.{Bytes}
 use Rattle.fields.proofs.Lists.{part_fits}
 use Rattle.settings.proofs.parts.length_in.Goals as goal

@@ -1,10 +1,9 @@
 -- Each number stands straight after the one before it, and has four bytes at most, so nothing of it is lost.
-use native.Mathlib.Omega.{arith}
-use lib.Seq.{drop-drop}
+use Rattle.std.proofs.Common.{arith, drop-drop}
 use Rattle.fields.specs.Endian.{Bytes}
 use Rattle.fields.proofs.Lists.{part_fits}
 use Rattle.settings.specs.Reading.{settings_in}
-use Rattle.settings.specs.Record.{kind_width}
+use Rattle.settings.specs.Record.{kind_width, version_of}
 use Rattle.settings.proofs.Record.{kind_most}
 use Rattle.settings.proofs.parts.settings_in.Goals as goal
 
@@ -12,7 +11,7 @@ pub returns : goal.returns
 unfolding settings_in
 returns c =
     let bytes = c.args.bytes.now in
-    let v = c.args.version in
+    let v = version_of c.args.version in
     let B : Bytes bytes = λ i. omega (arith, c.type_inv.bytes i) in
     let most = kind_most v in
     rw (

@@ -1,9 +1,0 @@
--- Each way out is a part of the definition's test.
-use borrow.Author.Tests.{eq-eqb, ne_eqb}
-use Rattle.protocol_control.proofs.limits.is_no_size.Goals as goal
-
-pub returns-then-size-eq0 : goal.returns-then-size-eq0
-returns-then-size-eq0 c = simp (eq-eqb _ _ c.if-size-eq0.true)
-
-pub returns : goal.returns
-returns c = simp (ne_eqb _ _ c.if-size-eq0.false)
