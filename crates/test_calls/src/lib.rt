@@ -1,5 +1,5 @@
 // Calls of the codec as several test tools make them: an encoder that knows a chunk size, a decoder with what it lends, and a
-// walk of a decoder through an input. A test tool: it is proved safe and ending, and promises nothing further.
+// walk of a decoder through an input. A test tool: it is proved safe and ending, and promises what its few clauses say.
 #![tactic(auto)]
 
 mod cut;
