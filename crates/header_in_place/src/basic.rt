@@ -13,7 +13,7 @@ use held::{
     ChunkRefusal, Done, Event, Held, HeldRow, ROWS, Stage, TABLE_LENGTH, claimed, find, first_free,
     goes, row_in,
 };
-use settling::{basic_refusal, timestamp_next};
+use settling::{check_basic, timestamp_next};
 
 // The format that a first byte says.
 #[tactic(auto, unfolding(chunk_header::specs::Table::format_of))]
@@ -74,7 +74,7 @@ fn named(h: Held, rows: &[u32; TABLE_LENGTH], first: u32, id: u32) -> Result<Don
     let format = format_in(first);
     let place = find(rows, id);
     let free = first_free(rows);
-    basic_refusal(
+    check_basic(
         format,
         place.is_some(),
         free.is_some(),

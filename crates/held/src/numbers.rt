@@ -67,7 +67,7 @@ fn held_row(held: &[u32; 24], at: usize) -> HeldRow
 
 // The format that a type's number means: one over 3 means type 3.
 #[tactic(auto, unfolding(crate::specs::Numbers::format_from))]
-fn format_from(kind: u32) -> ChunkHeaderFormat
+pub fn format_from(kind: u32) -> ChunkHeaderFormat
     ensures { result ≡ format_from kind }
 {
     match kind {

@@ -9,7 +9,7 @@ use held::held_in;
 use time::RtmpTimestamp;
 
 // A message: its payload is the first `length` bytes of the payload buffer.
-#[derive(Clone, Copy)]
+#[derive(Clone, Copy, Debug, PartialEq, Eq)]
 pub struct Message {
     pub type_id: u32,
     pub stream_id: u32,
@@ -17,7 +17,8 @@ pub struct Message {
     pub length: u32,
 }
 
-#[derive(Clone, Copy)]
+// Kept: three cases, and in each what was used; a Result of an Option beside that number is no plainer to match.
+#[derive(Clone, Copy, Debug, PartialEq, Eq)]
 pub enum Answer {
     Message { message: Message, used: usize },
     More { used: usize },

@@ -5,6 +5,7 @@ ghost use Rattle.one_stroke.specs.Lent.{Lent};
 ghost use Rattle.in_place.specs.Answer.{answer_of};
 
 use crate::answer::{Answer, handed, refused};
+use crate::refusal::Refusal;
 use crate::turning::turns;
 use held::{TABLE_LENGTH, places, renew};
 use one_stroke::{at_once, within};
@@ -25,7 +26,7 @@ fn by_turns(
     }
     if payload.len() < held[places::ROOM] as usize {
         renew(held);
-        return refused(7, 0);
+        return refused(Refusal::BUFFER_TOO_SHORT.number, 0);
     }
     if input.len() == 0 {
         renew(held);

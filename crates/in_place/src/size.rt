@@ -36,7 +36,7 @@ pub fn make(held: &mut [u32; 24], rows: &mut [u32; TABLE_LENGTH], room: u32) -> 
 {
     if room == 0 || LARGEST_ROOM < room {
         fresh(held, rows, room, 6);
-        return Err(Refusal { number: 6 });
+        return Err(Refusal::ROOM_OUTSIDE_LIMITS);
     }
     fresh(held, rows, room, 0);
     Ok(())
@@ -60,11 +60,11 @@ fn resize(held: &mut [u32; 24], size: u32)
     });
 }
 
-fn refused(held: &mut [u32; 24], number: u32) -> Result<(), Refusal>
-    ensures { (size_of result ≡ told_refused number) × (held.new ≡ again held.old) }
+fn refused(held: &mut [u32; 24], refusal: Refusal) -> Result<(), Refusal>
+    ensures { (size_of result ≡ told_refused refusal.number) × (held.new ≡ again held.old) }
 {
     renew(held);
-    Err(Refusal { number })
+    Err(refusal)
 }
 
 // The chunk size of the peer, told between messages. No row counts, and none is touched.
@@ -73,19 +73,19 @@ pub fn set_max_chunk_size(held: &mut [u32; 24], new_size: u32) -> Result<(), Ref
 {
     let closed = held[places::CLOSED];
     if closed != 0 {
-        return refused(held, closed);
+        return refused(held, Refusal { number: closed });
     }
     if new_size == 0 {
-        return refused(held, 3);
+        return refused(held, Refusal::CHUNK_SIZE_ZERO);
     }
     if LARGEST_CHUNK_SIZE < new_size {
-        return refused(held, 4);
+        return refused(held, Refusal::CHUNK_SIZE_TOO_LARGE);
     }
     if between(held) {
         resize(held, new_size);
         return Ok(());
     }
-    refused(held, 8)
+    refused(held, Refusal::INSIDE_MESSAGE)
 }
 
 // The chunk size in force.

@@ -12,7 +12,7 @@ ghost use Rattle.one_stroke.specs.Quick.{Midway, Once, Unfit, Whole};
 use chunk_header::{ChunkHeaderFormat, MAX_INITIAL_TIMESTAMP, get_format, header_length};
 use fields::{number_at, put_bytes, swap_bytes};
 use held::{Held, HeldRow, Stage, TABLE_LENGTH, find, numbers_of, places, put_at, row_in};
-use settling::first_time;
+use settling::message_time;
 
 // The fields of a header after a basic header of one byte.
 fn time_in(input: &[u8]) -> u32
@@ -126,7 +126,7 @@ fn see(held: &[u32; 24], rows: &[u32; TABLE_LENGTH], input: &[u8]) -> Option<See
     ) {
         return None;
     }
-    let time = first_time(format, before.time, header.field);
+    let time = message_time(format, before.time, header.field);
     Some(Seen {
         start,
         format,

@@ -4,7 +4,7 @@
 mod refusals;
 mod settle;
 
-pub use crate::refusals::basic_refusal;
+pub use crate::refusals::check_basic;
 pub use crate::settle::{
-    extended_next, first_time, length_next, settled, stream_next, timestamp_next, type_next,
+    extended_next, length_next, message_time, settled, stream_next, timestamp_next, type_next,
 };

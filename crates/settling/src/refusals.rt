@@ -44,7 +44,7 @@ fn is_other_header(format: ChunkHeaderFormat, inside: bool) -> bool
 }
 
 #[tactic(auto, unfolding(chunk_meaning::specs::Meaning::basic_refusal))]
-pub fn basic_refusal(
+pub fn check_basic(
     format: ChunkHeaderFormat,
     has_row: bool,
     has_free: bool,

@@ -59,7 +59,7 @@ fn repeats(message: HeldRow, header: HeldRow, time: u32) -> bool
 
 // What is refused of a later chunk, and of a first one.
 #[tactic(auto, unfolding(chunk_meaning::specs::Meaning::later_refusal))]
-fn later_refusal(h: Held, time: u32) -> Result<(), ChunkRefusal>
+fn check_later(h: Held, time: u32) -> Result<(), ChunkRefusal>
     ensures { refused_by result ≡ later_refusal h.format (row_from h.before) (row_from h.header) time }
 {
     if is_full(h.format) && !repeats(h.before, h.header, time) {
@@ -69,7 +69,7 @@ fn later_refusal(h: Held, time: u32) -> Result<(), ChunkRefusal>
 }
 
 #[tactic(auto, unfolding(chunk_meaning::specs::Meaning::first_refusal))]
-fn first_refusal(h: Held, time: u32) -> Result<(), ChunkRefusal>
+fn check_first(h: Held, time: u32) -> Result<(), ChunkRefusal>
     ensures { refused_by result ≡ first_refusal h.format (row_from h.header) time h.room }
 {
     if is_small_extended(h, time) {
@@ -88,7 +88,7 @@ fn is_small_extended(h: Held, time: u32) -> bool
 }
 
 // The time of a message, by what its first chunk says of it.
-pub fn first_time(format: ChunkHeaderFormat, before: u32, time: u32) -> u32
+pub fn message_time(format: ChunkHeaderFormat, before: u32, time: u32) -> u32
     ensures { result ≡ first_time format before time }
 {
     if is_full(format) {
@@ -103,10 +103,10 @@ pub fn settled(h: Held, time: u32) -> Result<Done, ChunkRefusal>
     ensures { told result ≡ done_of h (whole (setting_in h) (reader_from h) time) }
 {
     if h.id == 0 {
-        first_refusal(h, time)?;
-        return Ok(opened(h, first_time(h.format, h.before.time, time), 0));
+        check_first(h, time)?;
+        return Ok(opened(h, message_time(h.format, h.before.time, time), 0));
     }
-    later_refusal(h, time)?;
+    check_later(h, time)?;
     Ok(opened(h, h.before.time, h.got))
 }
 
