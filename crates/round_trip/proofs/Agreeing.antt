@@ -1,15 +1,8 @@
 -- Encoder and decoder agree: between messages what the encoder remembers of every stream whose last message was not droppable is what was said last on it.
-use Prim.Native.Nat.{ℕ, ◌+◌, ◌^◌, ◌≤◌, ◌<◌}
-use mathlib.Core.Path.{◌≡◌, refl, sym, ap, ◌∙◌}
-use mathlib.Core.Logic.{◌≢◌}
-use mathlib.Core.Bool.{Bool, true, false}
-use mathlib.Core.List.{List, []}
+use Rattle.std.proofs.Common.{ℕ, ◌+◌, ◌^◌, ◌≤◌, ◌<◌, ◌≡◌, refl, sym, ap, ◌∙◌, ◌≢◌, Bool, true, false, List, [], arith, eqb, length, get_or, set, length-set, get_or-set_other, get_or-set_same, eqb-true, le-ltb, ne_eqb}
 use mathlib.Core.Option.{none, some}
-use native.Mathlib.Omega.{arith}
-use lib.Dec.{eqb}
-use lib.ListN.{length, get_or, set, length-set, get_or-replicate}
-use lib.Seq.{get_or-set_other, get_or-set_same}
-use borrow.Author.Tests.{eqb-true, eqb-false, le-ltb, ne_eqb}
+use Rattle.std.proofs.Math.ListN.{get_or-replicate}
+use borrow.Author.Tests.{eqb-false}
 use Rattle.chunk_header.specs.declared.ChunkHeader.{ChunkHeader}
 use Rattle.chunk_header.specs.Header.{nothing}
 use Rattle.serializer.specs.declared.ChunkSerializer.{ChunkSerializer}

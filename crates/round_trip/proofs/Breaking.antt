@@ -1,12 +1,6 @@
 -- A line that breaks: whatever the calls, they have handed out the first of the packets that arrive, and where nothing is unread the next one lacks a byte.
-use Prim.Native.Nat.{ℕ, ◌-◌}
-use mathlib.Core.Bool.{Bool, true, false}
-use mathlib.Core.List.{List, [], ◌∷◌, ◌++◌, append-nil, map}
-use mathlib.Core.Path.{◌≡◌, refl, sym, ap, ◌∙◌}
-use native.Mathlib.Omega.{arith}
-use lib.ListN.{length, take, drop, drop_of_length-le}
-use lib.Seq.{drop-append_seam}
-use borrow.Author.Tests.{leb-true}
+use Rattle.std.proofs.Common.{ℕ, ◌-◌, Bool, true, false, List, [], ◌∷◌, ◌++◌, append-nil, map, ◌≡◌, refl, sym, ap, ◌∙◌, arith, length, take, drop, drop_of_length-le, leb-true}
+use Rattle.std.proofs.Math.Seq.{drop-append_seam}
 use Rattle.serializer.specs.Remembered.{fresh}
 use Rattle.decoding.specs.Call.{Outcome, next, run}
 use Rattle.decoding.specs.Told.{between, made}

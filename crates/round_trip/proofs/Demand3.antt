@@ -1,12 +1,5 @@
 -- Demand 3 is a line that breaks after its last byte.
-use Prim.Native.Nat.{ℕ, ◌+◌, ◌-◌}
-use mathlib.Core.Bool.{Bool, cond}
-use mathlib.Core.List.{List, [], ◌∷◌, ◌++◌, map}
-use mathlib.Core.Path.{◌≡◌, refl, sym, ap, subst, ◌∙◌}
-use native.Mathlib.Omega.{arith}
-use lib.ListN.{length, length-append, take}
-use lib.Seq.{take_all}
-use borrow.Author.Tests.{le-leb}
+use Rattle.std.proofs.Common.{ℕ, ◌+◌, ◌-◌, Bool, cond, List, [], ◌∷◌, ◌++◌, map, ◌≡◌, refl, sym, ap, subst, ◌∙◌, arith, length, length-append, take, take_all, le-leb}
 use Rattle.serializer.specs.Remembered.{fresh}
 use Rattle.decoding.specs.Told.{between}
 use Rattle.round_trip.specs.Breaking.{Breaks, broken_after, whole}

@@ -1,14 +1,7 @@
 -- The first chunk of a message is taken: where it leaves a number out, what was said last on its stream says it.
-use Prim.Native.Nat.{ℕ, ◌^◌, ◌≤◌, ◌<◌, min}
-use mathlib.Core.Path.{◌≡◌, refl, sym, ap, ◌∙◌}
-use mathlib.Core.Bool.{Bool, true, false, ◌&&◌, and-false}
-use mathlib.Core.Logic.{inl, inr}
-use mathlib.Core.List.{List}
+use Rattle.std.proofs.Common.{ℕ, ◌^◌, ◌≤◌, ◌<◌, min, ◌≡◌, refl, sym, ap, ◌∙◌, Bool, true, false, ◌&&◌, inl, inr, List, arith, ltb, eqb, length, eq-eqb, ne_eqb, le-ltb, lt-ltb, ltb-true}
+use Rattle.std.proofs.Math.Bool.{and-false}
 use mathlib.Core.Option.{none, some}
-use native.Mathlib.Omega.{arith}
-use lib.Dec.{ltb, eqb}
-use lib.ListN.{length}
-use borrow.Author.Tests.{eq-eqb, ne_eqb, le-ltb, lt-ltb, ltb-true}
 use Rattle.fields.proofs.Tests.{equal, itself, not_decides, not_not, one_of, tested}
 use Rattle.time.specs.Clock.{sum}
 use Rattle.time.proofs.Laws.{sum_comm, sum_difference}

@@ -1,14 +1,6 @@
 -- Calls over the packets that are to come: of the first a proper part has come, and each call only asks for more, or hands out its message.
-use Prim.Native.Nat.{ℕ, ◌+◌, ◌-◌, ◌≤◌, ◌<◌}
-use mathlib.Core.Bool.{Bool, true, false}
-use mathlib.Core.List.{List, [], ◌∷◌, ◌++◌, append_assoc, map}
-use mathlib.Core.Logic.{◌≢◌}
-use mathlib.Core.Path.{◌≡◌, refl, sym, ap, subst, ◌∙◌}
-use native.Mathlib.Omega.{arith}
-use lib.Dec.{ltb}
-use lib.ListN.{length, take, drop, length-append, length-take, take-append-drop}
-use lib.Seq.{drop-append-add, drop-append_seam, take-append-add, take-append-le, take-append_seam, take-nil}
-use borrow.Author.Tests.{le-leb, ltb-false, ltb-true}
+use Rattle.std.proofs.Common.{ℕ, ◌+◌, ◌-◌, ◌≤◌, ◌<◌, Bool, true, false, List, [], ◌∷◌, ◌++◌, append_assoc, map, ◌≢◌, ◌≡◌, refl, sym, ap, subst, ◌∙◌, arith, ltb, length, take, drop, length-append, length-take, take-append-drop, le-leb, ltb-false, ltb-true}
+use Rattle.std.proofs.Math.Seq.{drop-append-add, drop-append_seam, take-append-add, take-append-le, take-append_seam, take-nil}
 use Rattle.decoding.specs.Decoder.{Decoder}
 use Rattle.decoding.specs.Answer.{Listed, message as found, more, refused as not_read, used}
 use Rattle.decoding.specs.Call.{Outcome, next, outcome, run}

@@ -1,13 +1,6 @@
 -- A free row is always left: the encoder's five chunk streams claim at most five.
-use Prim.Native.Nat.{ℕ, zero, suc, ◌+◌, ◌≤◌, ◌<◌}
-use mathlib.Core.Path.{◌≡◌, refl, ap, ◌∙◌}
-use mathlib.Core.Bool.{Bool, true, false, cond, ◌||◌}
-use mathlib.Core.List.{List, [], ◌∷◌, ◌++◌}
+use Rattle.std.proofs.Common.{ℕ, zero, suc, ◌+◌, ◌≤◌, ◌<◌, ◌≡◌, refl, ap, ◌∙◌, Bool, true, false, cond, ◌||◌, List, [], ◌∷◌, ◌++◌, arith, ltb, eqb, length, length-append, eqb-true}
 use mathlib.Core.Option.{some, map}
-use native.Mathlib.Omega.{arith}
-use lib.Dec.{ltb, eqb}
-use lib.ListN.{length, length-append}
-use borrow.Author.Tests.{eqb-true}
 use Rattle.fields.specs.Cases.{among}
 use Rattle.byte_machine.specs.Rows.{find, free, own_row, row_count}
 use Rattle.byte_machine.proofs.Putting.{Lists, free_after}

@@ -1,12 +1,6 @@
 -- What is kept of a run is to come to a decoder, packet after packet: encoder and decoder agree from the start, and each kept packet leaves them agreeing.
-use Prim.Native.Nat.{ℕ, ◌≤◌, ◌<◌, max}
-use mathlib.Core.Path.{◌≡◌, refl, sym, ap, subst, ◌∙◌}
-use mathlib.Core.Bool.{Bool, true, false}
-use mathlib.Core.List.{List, [], ◌∷◌, ◌++◌}
+use Rattle.std.proofs.Common.{ℕ, ◌≤◌, ◌<◌, max, ◌≡◌, refl, sym, ap, subst, ◌∙◌, Bool, true, false, List, [], ◌∷◌, ◌++◌, arith, length, take, eq-eqb, ne_eqb, le-ltb}
 use mathlib.Core.Option.{none}
-use native.Mathlib.Omega.{arith}
-use lib.ListN.{length, take}
-use borrow.Author.Tests.{eq-eqb, ne_eqb, le-ltb}
 use Rattle.serializer.specs.declared.ChunkSerializer.{ChunkSerializer}
 use Rattle.serializer.specs.Answer.{refused as not_written}
 use Rattle.serializer.specs.Header.{header}

@@ -1,13 +1,6 @@
 -- A later chunk of a message is taken: it is of the message's own stream, and says what was said before.
-use Prim.Native.Nat.{ℕ, ◌-◌, min}
-use mathlib.Core.Path.{◌≡◌, refl, sym, ap, subst, ◌∙◌}
-use mathlib.Core.Bool.{Bool, true, false}
-use mathlib.Core.List.{List}
+use Rattle.std.proofs.Common.{ℕ, ◌-◌, min, ◌≡◌, refl, sym, ap, subst, ◌∙◌, Bool, true, false, List, arith, eqb, length, eq-eqb, eqb-true, ne_eqb}
 use mathlib.Core.Option.{some}
-use native.Mathlib.Omega.{arith}
-use lib.Dec.{eqb}
-use lib.ListN.{length}
-use borrow.Author.Tests.{eq-eqb, eqb-true, ne_eqb}
 use Rattle.chunk_header.specs.declared.ChunkHeader.{ChunkHeader}
 use Rattle.chunk_header.specs.Layout.{Chunk}
 use Rattle.serializer.specs.Packet.{chunk, extended, later_format}

@@ -1,10 +1,6 @@
 -- Every cutting into pieces comes to an end, since a call that is offered a byte uses one: so demand 3 covers it.
-use Prim.Native.Nat.{ℕ, zero, suc, ◌+◌, ◌≤◌, ◌<◌}
-use mathlib.Core.Path.{◌≡◌, sym, ap, subst, ◌∙◌}
-use mathlib.Core.List.{List, [], ◌∷◌, ◌++◌}
-use native.Mathlib.Omega.{arith}
-use lib.ListN.{length, drop, length-append, length-drop}
-use lib.Seq.{drop-append-le, take-append_seam}
+use Rattle.std.proofs.Common.{ℕ, zero, suc, ◌+◌, ◌≤◌, ◌<◌, ◌≡◌, sym, ap, subst, ◌∙◌, List, [], ◌∷◌, ◌++◌, arith, length, drop, length-append, length-drop}
+use Rattle.std.proofs.Math.Seq.{drop-append-le, take-append_seam}
 use Rattle.serializer.specs.Remembered.{fresh}
 use Rattle.decoding.specs.Answer.{used}
 use Rattle.decoding.specs.Call.{next as called}

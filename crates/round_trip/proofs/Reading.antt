@@ -1,15 +1,6 @@
 -- A packet is read back: its chunks, one after the other, hand out its message.
-use Prim.Native.Nat.{ℕ, zero, suc, ◌+◌, ◌≤◌, ◌<◌, min}
-use mathlib.Core.Path.{◌≡◌, refl, sym, ap, subst, ◌∙◌}
-use mathlib.Core.Bool.{Bool, true, false}
-use mathlib.Core.List.{List, [], ◌++◌, append_assoc, append-nil}
+use Rattle.std.proofs.Common.{ℕ, zero, suc, ◌+◌, ◌≤◌, ◌<◌, min, ◌≡◌, refl, sym, ap, subst, ◌∙◌, Bool, true, false, List, [], ◌++◌, append_assoc, append-nil, le_trans, not-suc-le-zero, arith, ltb, length, take, drop, length-append, length-drop, length-take, take-append-drop, drop_of_length-le, take_all, ltb-true, ltb-false}
 use mathlib.Core.Option.{Option, none, some, get_or}
-use native.Mathlib.Nat.{le_trans, not-suc-le-zero}
-use native.Mathlib.Omega.{arith}
-use lib.Dec.{ltb}
-use lib.ListN.{length, take, drop, length-append, length-drop, length-take, take-append-drop, drop_of_length-le}
-use lib.Seq.{take_all}
-use borrow.Author.Tests.{ltb-true, ltb-false}
 use Rattle.chunk_header.specs.declared.ChunkHeader.{ChunkHeader}
 use Rattle.chunk_header.specs.declared.ChunkHeaderFormat.{ChunkHeaderFormat}
 use Rattle.chunk_header.specs.Layout.{Chunk, chunk_bytes}

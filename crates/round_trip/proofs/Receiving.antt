@@ -1,9 +1,5 @@
 -- A receiver's calls go past what they use: where each is made of an open decoder with a buffer that is long enough, every byte is used in the end.
-use Prim.Native.Nat.{ℕ, zero, suc, ◌+◌, ◌-◌, ◌≤◌, ◌<◌, max}
-use mathlib.Core.List.{List, [], ◌∷◌}
-use mathlib.Core.Path.{◌≡◌, refl}
-use native.Mathlib.Omega.{arith}
-use lib.ListN.{length, take, drop, length-drop}
+use Rattle.std.proofs.Common.{ℕ, zero, suc, ◌+◌, ◌-◌, ◌≤◌, ◌<◌, max, List, [], ◌∷◌, ◌≡◌, refl, arith, length, take, drop, length-drop}
 use Rattle.decoding.specs.Answer.{Listed, message as found, more, refused as not_read, used}
 use Rattle.decoding.specs.Call.{next}
 use Rattle.decoding.proofs.Progress.{uses_a_byte}

@@ -1,13 +1,7 @@
 -- A call of the encoder is refused and leaves all as it was, or writes its message's packet and remembers it.
-use Prim.Native.Nat.{ℕ, ◌^◌, ◌≤◌, ◌<◌}
-use mathlib.Core.Path.{◌≡◌, refl, sym}
-use mathlib.Core.Bool.{Bool, true, false, cond}
-use mathlib.Core.List.{List}
-use native.Mathlib.Omega.{arith}
-use lib.Dec.{eqb, ltb}
-use lib.ListN.{length, take}
-use lib.Seq.{take-append_seam}
-use borrow.Author.Tests.{eqb-false, ltb-false}
+use Rattle.std.proofs.Common.{ℕ, ◌^◌, ◌≤◌, ◌<◌, ◌≡◌, refl, sym, Bool, true, false, cond, List, arith, eqb, ltb, length, take, ltb-false}
+use Rattle.std.proofs.Math.Seq.{take-append_seam}
+use borrow.Author.Tests.{eqb-false}
 use Rattle.fields.specs.Endian.{big_endian}
 use Rattle.fields.proofs.Endian.{length_big}
 use Rattle.chunk_header.specs.declared.ChunkHeader.{ChunkHeader}

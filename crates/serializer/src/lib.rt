@@ -75,7 +75,7 @@ impl ChunkSerializer {
         Plan::new(message, previous, self.max_chunk_size, payload)
     }
 
-    // Sends a message whose payload has a length that is allowed; from then on chunks have `size_after`.
+    // Sends a message whose payload has a length that is allowed; from then on chunks have `size_after`. A refusal leaves all as before.
     #[tactic(auto, unfolding(crate::specs::Serialize::sent))]
     fn send(
         &mut self,
@@ -115,6 +115,7 @@ impl ChunkSerializer {
         ensures { outcome_of result output.new ≡ serialized self (message_of type_id stream_id timestamp.value (length payload.now) force_uncompressed can_be_dropped) payload.now output.old }
     {
         let size = self.max_chunk_size;
+        // Kept: a match, since the closure of an `and_then` would change encoder and output, and then the goal `returns` stays open.
         let packet = match payload_length(payload) {
             Ok(length) => {
                 let message = Message {
