@@ -1,10 +1,9 @@
-// A run of a decoder, in what is lent, over a whole input, piece by piece; what a call left unread is offered again.
-use bench_parts::{Tally, after, counted, piece_end, tell};
-use in_place::{TABLE_LENGTH, next_message};
-use test_calls::{make_sized, used_of};
-use test_parts::part;
+// A run of a decoder, in what is lent, over a whole input.
+use bench_parts::decode_all;
+use in_place::{TABLE_LENGTH, make, next_message, set_max_chunk_size};
 
 // Decodes all of `input`, and tells messages, calls, bytes taken and the checksum.
+// Kept: the C interface lends numbers and a table one by one, and has 0 for all at once.
 #[unsafe(no_mangle)]
 pub extern "C" fn bench_decode(
     held: &mut [u32; 24],
@@ -17,15 +16,10 @@ pub extern "C" fn bench_decode(
     payload: &mut [u8],
     report: &mut [u64; 4],
 ) {
-    make_sized(held, rows, room, size);
-    let mut tally = Tally::new();
-    let mut end = 0;
-    let mut at = 0;
-    while at < input.len() {
-        end = piece_end(end, at, piece, input.len());
-        let answer = next_message(held, rows, part(input, at, end), payload);
-        tally = counted(tally, answer, payload, every);
-        at = after(at, used_of(answer), input.len());
-    }
-    tell(tally, report);
+    let _ = make(held, rows, room);
+    let _ = set_max_chunk_size(held, size);
+    let tally = decode_all(input, piece, every, payload, |input, payload| {
+        next_message(held, rows, input, payload)
+    });
+    *report = tally.report();
 }

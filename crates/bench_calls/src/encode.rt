@@ -1,31 +1,12 @@
 // A run of an encoder over a list of messages, each written at the start of the same output.
-use bench_parts::{Tally, after, probe, tell};
-use test_calls::{count_of, encoder};
+use bench_parts::Tally;
+use test_calls::encoder;
 use test_parts::part;
 use time::RtmpTimestamp;
 
-// Counts a packet, the first `n` bytes of the output.
-fn counted(tally: Tally, n: usize, output: &[u8], every: usize) -> Tally {
-    let called = tally.called(n);
-    let packet = part(output, 0, n);
-    called.message(probe(called.sum, packet, every))
-}
-
-fn kind_at(kinds: &[u8], i: usize) -> u8 {
-    if kinds.len() <= i {
-        return 0;
-    }
-    kinds[i]
-}
-
-fn time_at(times: &[u32], i: usize) -> RtmpTimestamp {
-    if times.len() <= i {
-        return RtmpTimestamp::new(0);
-    }
-    RtmpTimestamp::new(times[i])
-}
-
-// Encodes `width` bytes of the source after the other as a message each, with the kinds and times given, and tells messages, calls, bytes written and the checksum.
+// Encodes `width` bytes of the source after the other as a message each, all at once for 0, with the kinds and times given, or 0
+// where there are none, and tells messages, calls, bytes written and the checksum.
+// Kept: the C interface has 0 for all at once, and the kinds and times apart.
 #[unsafe(no_mangle)]
 pub extern "C" fn bench_encode(
     size: u32,
@@ -38,21 +19,15 @@ pub extern "C" fn bench_encode(
     report: &mut [u64; 4],
 ) {
     let mut state = encoder(size);
-    let mut tally = Tally::new();
-    let mut count = 0;
-    let mut from = 0;
-    while from < source.len() {
-        let end = after(from, width, source.len());
-        let kind = kind_at(kinds, count);
-        let time = time_at(times, count);
-        let payload = part(source, from, end);
+    let mut tally = Tally::default();
+    let width = if width == 0 { usize::MAX } else { width };
+    for (i, payload) in source.chunks(width).enumerate() {
+        let kind = kinds.get(i).copied().unwrap_or(0);
+        let time = RtmpTimestamp::new(times.get(i).copied().unwrap_or(0));
         let sent = state.serialize(kind, 1, time, payload, false, false, output);
-        let next = sent.serializer;
-        let packet = sent.packet;
-        state = next;
-        tally = counted(tally, count_of(packet), output, every);
-        count = std::num::wrapping_add_usize(count, 1);
-        from = end;
+        state = sent.serializer;
+        let written = sent.packet.unwrap_or(0);
+        tally.packet(part(output, 0, written), every);
     }
-    tell(tally, report);
+    *report = tally.report();
 }

@@ -1,10 +1,8 @@
-// For the runs that bench/run times: parts of an input, what a run answers, and what a call of the decoder adds to it.
+// For the runs that bench/run times: a decoder's way through an input, and what a run answers.
 #![tactic(auto)]
 
-mod answers;
-mod parts;
+mod decode;
 mod tally;
 
-pub use crate::answers::counted;
-pub use crate::parts::{after, piece_end};
-pub use crate::tally::{Tally, probe, tell};
+pub use crate::decode::decode_all;
+pub use crate::tally::Tally;

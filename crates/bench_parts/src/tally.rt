@@ -1,69 +1,77 @@
 // What a run answers: counts, and a checksum that the original must reach too.
+use in_place::Answer;
+use test_calls::used_of;
+use test_parts::part;
 
-#[derive(Clone, Copy)]
+#[derive(Clone, Copy, Debug, Default)]
 pub struct Tally {
-    pub messages: u64,
-    pub calls: u64,
-    pub bytes: u64,
-    pub sum: u64,
-}
-
-fn wide(byte: u8) -> u32 {
-    byte as u32
-}
-
-// The checksum with one number more.
-pub fn mix(sum: u64, x: u32) -> u64 {
-    sum % 4294967296 * 31 + x as u64
-}
-
-// The checksum with every so many of the bytes, the first and the last among them.
-pub fn probe(before: u64, bytes: &[u8], every: usize) -> u64 {
-    let mut sum = before;
-    let mut i = 0;
-    while i < bytes.len() {
-        sum = mix(sum, wide(bytes[i]));
-        if every < 1 {
-            return sum;
-        }
-        if bytes.len() - i <= every {
-            return mix(sum, wide(bytes[bytes.len() - 1]));
-        }
-        i += every;
-    }
-    sum
+    messages: u64,
+    calls: u64,
+    bytes: u64,
+    sum: u64,
 }
 
 impl Tally {
-    pub fn new() -> Tally {
-        Tally {
-            messages: 0,
-            calls: 0,
-            bytes: 0,
-            sum: 0,
+    // One call more, which took or wrote so many bytes.
+    fn call(&mut self, bytes: usize) {
+        self.calls = self.calls.wrapping_add(1);
+        self.bytes = self.bytes.wrapping_add(bytes as u64);
+    }
+
+    fn message(&mut self) {
+        self.messages = self.messages.wrapping_add(1);
+    }
+
+    // One number more in the checksum.
+    fn mix(&mut self, number: u32) {
+        self.sum = self.sum % (1 << 32) * 31 + u64::from(number);
+    }
+
+    // Every so many of the bytes in the checksum, the first and the last among them; the first alone for 0.
+    fn probe(&mut self, bytes: &[u8], every: usize) {
+        if every == 0 {
+            if let Some(first) = bytes.first() {
+                self.mix(u32::from(*first));
+            }
+            return;
+        }
+        for byte in bytes.iter().step_by(every) {
+            self.mix(u32::from(*byte));
+        }
+        if let Some(last) = bytes.last() {
+            self.mix(u32::from(*last));
         }
     }
 
-    // One call more, which took or wrote so many bytes.
-    pub fn called(self, bytes: usize) -> Tally {
-        let mut next = self;
-        next.calls = std::num::wrapping_add_u64(self.calls, 1);
-        next.bytes = std::num::wrapping_add_u64(self.bytes, bytes as u64);
-        next
+    // Counts what a call of the decoder answered. A refusal is counted as a message.
+    pub fn answer(&mut self, answer: Answer, payload: &[u8], every: usize) {
+        self.call(used_of(answer));
+        match answer {
+            Answer::Message { message, .. } => {
+                self.mix(message.type_id);
+                self.mix(message.stream_id);
+                self.mix(message.timestamp.value);
+                self.mix(message.length);
+                self.probe(part(payload, 0, message.length as usize), every);
+                self.message();
+            }
+            Answer::More { .. } => {}
+            Answer::Refused { number, .. } => {
+                self.mix(number);
+                self.message();
+            }
+        }
     }
 
-    // One message more, with the checksum after it.
-    pub fn message(self, sum: u64) -> Tally {
-        let mut next = self;
-        next.messages = std::num::wrapping_add_u64(self.messages, 1);
-        next.sum = sum;
-        next
+    // Counts a packet that a call of the encoder wrote.
+    pub fn packet(&mut self, packet: &[u8], every: usize) {
+        self.call(packet.len());
+        self.probe(packet, every);
+        self.message();
     }
-}
 
-pub fn tell(tally: Tally, report: &mut [u64; 4]) {
-    report[0] = tally.messages;
-    report[1] = tally.calls;
-    report[2] = tally.bytes;
-    report[3] = tally.sum;
+    // Messages, calls, bytes taken or written, and the checksum.
+    pub fn report(self) -> [u64; 4] {
+        [self.messages, self.calls, self.bytes, self.sum]
+    }
 }

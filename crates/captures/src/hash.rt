@@ -1,19 +1,22 @@
-// Hashes on standard output.
-use crate::sha256::Words;
-use std::io;
+// A payload's hash.
+use sha2::{Digest, Sha256};
+use std::fmt;
 
-fn print_word(rt: &impl Print, word: u32) -> io::Result<()> {
-    print!(rt; "{word:08x}")
+// A SHA-256, which is written in hex.
+#[derive(Clone, Copy)]
+pub struct Hash([u8; 32]);
+
+impl Hash {
+    pub fn of(payload: &[u8]) -> Self {
+        Hash(Sha256::digest(payload))
+    }
 }
 
-// Writes a hash in hex.
-pub fn print_hash(rt: &impl Print, hash: Words) -> io::Result<()> {
-    print_word(rt, hash.a)?;
-    print_word(rt, hash.b)?;
-    print_word(rt, hash.c)?;
-    print_word(rt, hash.d)?;
-    print_word(rt, hash.e)?;
-    print_word(rt, hash.f)?;
-    print_word(rt, hash.g)?;
-    print_word(rt, hash.h)
+impl fmt::Display for Hash {
+    fn fmt<W: fmt::Write>(&self, f: &mut fmt::Formatter<W>) -> fmt::Result {
+        for byte in self.0 {
+            write!(f, "{byte:02x}")?;
+        }
+        Ok(())
+    }
 }

@@ -3,45 +3,43 @@
 #![tactic(auto)]
 
 mod hash;
-mod sha256;
-mod walk;
+mod listing;
 
-use crate::walk::walk_through;
+use crate::listing::list_all;
 use std::rt::Files;
 use std::{fs, io};
 use test_calls::Cut;
-use test_parts::{part, print, read_full};
+use test_parts::read_full;
 
-// The longest capture, and the payload buffer.
+// The longest capture.
 const CAPTURE_LENGTH: usize = 65536;
 
-const PAYLOAD_LENGTH: usize = 65536;
+const NAMES: [&str; 4] = [
+    "ffmpeg-pub-128.c2s.rtmp",
+    "gst-rtmp2sink-change.c2s.rtmp",
+    "nginx-play-rtmpdump-128.s2c.rtmp",
+    "obs-pub.c2s.rtmp",
+];
 
-// Walks through the capture in both cuts.
-fn both(rt: &impl Print, name: &str, capture: &[u8], payload: &mut [u8]) -> io::Result<()> {
-    print(rt, name.as_bytes())?;
-    print(rt, b", byte by byte\n")?;
-    walk_through(rt, capture, Cut::even(1), payload)?;
-    print(rt, name.as_bytes())?;
-    print(rt, b", cut at random\n")?;
-    walk_through(rt, capture, Cut::random(), payload)
-}
-
-// Reads the capture, and answers how long it is.
-fn read(rt: &impl Files, name: &str, capture: &mut [u8]) -> io::Result<usize> {
+// Reads the capture into what is lent.
+fn read<'a>(rt: &impl Files, name: &str, room: &'a mut [u8]) -> io::Result<&'a [u8]> {
     let mut file = fs::open(rt, name)?;
-    read_full(&mut file, capture)
+    let length = read_full(&mut file, room)?;
+    Ok(&room[..length])
 }
 
-// Reads the capture and walks through it. Where it cannot be read, its name is on standard error.
-fn run(
-    rt: &(impl Files + Print + Eprint),
-    name: &str,
-    capture: &mut [u8],
-    payload: &mut [u8],
-) -> io::Result<()> {
-    match read(rt, name, capture) {
-        Ok(count) => both(rt, name, part(capture, 0, count), payload),
+// Lists the capture in both cuts.
+fn list_both(rt: &impl Print, name: &str, capture: &[u8]) -> io::Result<()> {
+    println!(rt; "{name}, byte by byte")?;
+    list_all(rt, capture, Cut::Even(1))?;
+    println!(rt; "{name}, cut at random")?;
+    list_all(rt, capture, Cut::random())
+}
+
+// Reads the capture and lists it. Where it cannot be read, its name is on standard error.
+fn run(rt: &(impl Files + Print + Eprint), name: &str, room: &mut [u8]) -> io::Result<()> {
+    match read(rt, name, room) {
+        Ok(capture) => list_both(rt, name, capture),
         Err(error) => {
             eprintln!(rt; "{name}: {error}")?;
             Err(error)
@@ -50,20 +48,9 @@ fn run(
 }
 
 fn main(rt: HostRuntime) -> io::Result<()> {
-    let mut capture = [0u8; CAPTURE_LENGTH];
-    let mut payload = [0u8; PAYLOAD_LENGTH];
-    run(&rt, "ffmpeg-pub-128.c2s.rtmp", &mut capture, &mut payload)?;
-    run(
-        &rt,
-        "gst-rtmp2sink-change.c2s.rtmp",
-        &mut capture,
-        &mut payload,
-    )?;
-    run(
-        &rt,
-        "nginx-play-rtmpdump-128.s2c.rtmp",
-        &mut capture,
-        &mut payload,
-    )?;
-    run(&rt, "obs-pub.c2s.rtmp", &mut capture, &mut payload)
+    let mut room = [0; CAPTURE_LENGTH];
+    for name in NAMES {
+        run(&rt, name, &mut room)?;
+    }
+    Ok(())
 }

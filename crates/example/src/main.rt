@@ -6,24 +6,20 @@ use serializer::ChunkSerializer;
 use std::io;
 use time::RtmpTimestamp;
 
-fn say(rt: &impl Print, words: &[u8], number: u64) -> io::Result<()> {
-    rt.write_all(words)?;
-    rt.print(number)
-}
-
 // Says what a call answered, and hands the decoder on.
 fn tell(rt: &impl Print, decoded: Decoded) -> io::Result<ChunkDeserializer> {
-    let answer = decoded.answer;
-    match answer {
+    match decoded.answer {
         Answer::Message { message, .. } => {
-            say(rt, b"message of type ", message.type_id as u64)?;
-            say(rt, b" at ", message.timestamp.value as u64)?;
-            say(rt, b" with bytes: ", message.length as u64)?;
+            let (type_id, time, length) = (
+                message.type_id,
+                message.timestamp.value,
+                message.length,
+            );
+            println!(rt; "message of type {type_id} at {time} with bytes: {length}")?;
         }
-        Answer::More { used } => say(rt, b"more wanted, used ", used as u64)?,
-        Answer::Refused { number, .. } => say(rt, b"refused with ", number as u64)?,
+        Answer::More { used } => println!(rt; "more wanted, used {used}")?,
+        Answer::Refused { number, .. } => println!(rt; "refused with {number}")?,
     }
-    rt.write_all(b"\n")?;
     Ok(decoded.deserializer)
 }
 

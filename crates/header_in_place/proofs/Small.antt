@@ -1,12 +1,5 @@
 -- A byte keeps the one bound that numbers need: the second byte of a basic header of three is a byte.
-use Prim.Native.Nat.{ℕ, ◌-◌, ◌<◌}
-use mathlib.Core.Path.{◌≡◌, refl}
-use mathlib.Core.Bool.{Bool, true, false, cond, not}
-use mathlib.Core.List.{List, [], ◌∷◌}
-use native.Mathlib.Omega.{arith}
-use lib.Dec.{eqb, leb, ltb}
-use lib.ListN.{get_or}
-use Rattle.std.specs.Prelude.{Option, Some, None}
+use Rattle.std.proofs.Common.{◌≡◌, refl, ℕ, ◌-◌, ◌<◌, Bool, true, false, cond, not, List, [], ◌∷◌, eqb, leb, ltb, get_or, Option, Some, None, Result, arith}
 use Rattle.chunk_header.specs.declared.ChunkHeaderFormat.{ChunkHeaderFormat}
 use Rattle.chunk_header.specs.declared.HeaderField.{HeaderField}
 use Rattle.chunk_header.specs.declared.HeaderField.TheVariants.{Timestamp, MessageLength as Length, MessageTypeId as TypeId, MessageStreamId as StreamId}
@@ -22,6 +15,8 @@ use Rattle.byte_machine.specs.Rows.{find, free, row_at, row_count}
 use Rattle.byte_machine.specs.Step.{basic_by, claims, extended_field_step, gathered, length_field_step, named, stepped, stream_field_step, timestamp_field_step, type_field_step}
 use Rattle.byte_machine.proofs.Passing.{at_length, at_stream, at_timestamp, at_type, either}
 use Rattle.decoding.specs.Call.{after, is_refusal}
+use Rattle.held.specs.declared.done.ChunkRefusal.{ChunkRefusal}
+use Rattle.held.specs.declared.done.Event.{Event as HeldEvent}
 use Rattle.header_in_place.specs.Byte.{Left, step_in}
 use Rattle.held.specs.Numbers.{decode}
 use Rattle.held.proofs.Again.{decode_encode, from_small, third}
@@ -96,7 +91,7 @@ module _ (setting : Setting) where
     stepped_small MessagePayload rows b s k = small h
 
 -- so the numbers that a byte leaves mean the definition's decoder after it
-pub left_means : (event : ℕ) (held rows held' rows' : List ℕ) (b : ℕ) → b < 256
+pub left_means : (event : Result HeldEvent ChunkRefusal) (held rows held' rows' : List ℕ) (b : ℕ) → b < 256
     → Left event held' rows' (decode held rows) (step_in (decode held rows) b)
     → decode held' rows' ≡ after (decode held rows) (step_in (decode held rows) b)
 unfolding after

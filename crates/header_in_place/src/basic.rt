@@ -1,16 +1,18 @@
 // The basic header.
-ghost use Rattle.std.specs.Prelude.{◌≡◌, [], ◌∷◌, ◌≤◌, ◌<◌, get_or};
+ghost use Rattle.std.specs.Prelude.{◌≡◌, [], ◌∷◌};
 ghost use Rattle.byte_machine.specs.Look.{look};
-ghost use Rattle.byte_machine.specs.Reader.{at, go};
+ghost use Rattle.byte_machine.specs.Step.{basic_by, claims as machine_claims, known as machine_known, named as machine_named};
 ghost use Rattle.chunk_header.specs.Basic.{csid};
 ghost use Rattle.chunk_header.specs.Table.{format_of};
-ghost use Rattle.byte_machine.specs.Step.{claims as Machine·claims, known as Machine·known, named as Machine·named};
-ghost use Rattle.held.specs.Done.{done_of};
-ghost use Rattle.header_in_place.specs.Byte.{bytes_of, kept_of, step_in};
-ghost use Rattle.held.specs.Numbers.{meant, reader_from, row_from, setting_in, stage_in};
+ghost use Rattle.held.specs.Done.{done_of, meant_by, told};
+ghost use Rattle.held.specs.Numbers.{place_in, reader_from, row_from, setting_in};
+ghost use Rattle.held.specs.Stages.{stage_of};
 
 use chunk_header::ChunkHeaderFormat;
-use held::{Done, Held, HeldRow, ROWS, TABLE_LENGTH, find, first_free, goes, refused, row_in};
+use held::{
+    ChunkRefusal, Done, Event, Held, HeldRow, ROWS, Stage, TABLE_LENGTH, claimed, find, first_free,
+    goes, row_in,
+};
 use settling::{basic_refusal, timestamp_next};
 
 // The format that a first byte says.
@@ -27,8 +29,8 @@ fn format_in(first: u32) -> ChunkHeaderFormat
 }
 
 // A chunk of a stream that has a row.
-fn known(h: Held, format: ChunkHeaderFormat, row: HeldRow, place: u32) -> Done
-    ensures { result ≡ done_of h (Machine·known (setting_in h) (reader_from h) format (row_from row) place) }
+fn known(h: Held, format: ChunkHeaderFormat, row: HeldRow, place: u32) -> Result<Done, ChunkRefusal>
+    ensures { told result ≡ done_of h (machine_known (setting_in h) (reader_from h) format (row_from row) place) }
 {
     timestamp_next(Held {
         format,
@@ -40,24 +42,18 @@ fn known(h: Held, format: ChunkHeaderFormat, row: HeldRow, place: u32) -> Done
     })
 }
 
-// A chunk of a stream that claims a free row.
-fn claims(h: Held, format: ChunkHeaderFormat, id: u32, place: u32) -> Done
-    ensures { result ≡ done_of h (Machine·claims (reader_from h) format id place) }
+// A chunk of a stream that claims a free row, if there is one.
+fn claims(h: Held, format: ChunkHeaderFormat, id: u32, free: Option<u32>) -> Done
+    ensures { Ok (meant_by result) ≡ done_of h (machine_claims (reader_from h) format id (place_in free)) }
 {
-    let row = HeldRow {
-        id,
-        time: 0,
-        field: 0,
-        length: 0,
-        kind: 0,
-        stream: 0,
-    };
+    let row = claimed(id);
     let held = Held {
-        stage: 3,
-        number: 0,
-        lacks: 3,
+        stage: Stage::InitialTimestamp {
+            gathered: 0,
+            lacks: 3,
+        },
         format,
-        place,
+        place: free.unwrap_or(ROWS as u32),
         left: 0,
         before: row,
         header: row,
@@ -65,131 +61,77 @@ fn claims(h: Held, format: ChunkHeaderFormat, id: u32, place: u32) -> Done
     };
     Done {
         held,
-        event: 0,
-        number: 0,
-        place,
+        event: Event::Go,
+        place: free,
     }
 }
 
 // The last byte of a basic header that says this id.
-fn named(h: Held, rows: &[u32; TABLE_LENGTH], first: u32, id: u32) -> Done
-    ensures { result ≡ done_of h (Machine·named (setting_in h) (look rows.now id) (reader_from h) (format_of first) id) }
+#[tactic(auto, using(held::proofs::Refusals::is_refused), unfolding(byte_machine::specs::Step::named))]
+fn named(h: Held, rows: &[u32; TABLE_LENGTH], first: u32, id: u32) -> Result<Done, ChunkRefusal>
+    ensures { told result ≡ done_of h (machine_named (setting_in h) (look rows.now id) (reader_from h) (format_of first) id) }
 {
     let format = format_in(first);
     let place = find(rows, id);
-    if place < ROWS {
-        let k = basic_refusal(format, true, true, h.id != 0, h.id == id);
-        if k != 0 {
-            return refused(h, k);
-        }
-        let row = row_in(rows, place);
-        return known(h, format, row, place as u32);
+    let free = first_free(rows);
+    basic_refusal(
+        format,
+        place.is_some(),
+        free.is_some(),
+        h.id != 0,
+        h.id == id,
+    )?;
+    match place {
+        Some(place) => known(h, format, row_in(rows, place), place as u32),
+        None => Ok(claims(h, format, id, free.map(|place| place as u32))),
     }
-    let unused = first_free(rows);
-    let k = basic_refusal(format, false, unused < ROWS, h.id != 0, h.id == id);
-    if k != 0 {
-        return refused(h, k);
-    }
-    claims(h, format, id, unused as u32)
 }
 
 // A basic header of one byte, of two and of three: an id, or more of it has to come.
 #[tactic(auto, unfolding(chunk_header::specs::Basic::csid))]
-fn one(a: u32) -> Option<u32>
+pub fn one(a: u32) -> Option<u32>
     ensures { result ≡ csid (a ∷ []) }
 {
-    let n = a % 64;
-    if n < 2 {
-        return None;
+    match a % 64 {
+        0 | 1 => None,
+        n => Some(n),
     }
-    Some(n)
 }
 
 #[tactic(auto, unfolding(chunk_header::specs::Basic::csid))]
-fn two(a: u32, b: u32) -> Option<u32>
-    requires { b ≤ 255 }
+pub fn two(a: u32, b: u8) -> Option<u32>
     ensures { result ≡ csid (a ∷ b ∷ []) }
 {
-    let n = a % 64;
-    if n == 0 {
-        let id = b + 64;
-        return Some(id);
+    match a % 64 {
+        0 => Some(b as u32 + 64),
+        1 => None,
+        n => Some(n),
     }
-    if n == 1 {
-        return None;
-    }
-    Some(n)
 }
 
 #[tactic(auto, unfolding(chunk_header::specs::Basic::csid))]
-fn three(a: u32, b: u32, c: u32) -> Option<u32>
-    requires { (b ≤ 255) × (c ≤ 255) }
+pub fn three(a: u32, b: u8, c: u8) -> Option<u32>
     ensures { result ≡ csid (a ∷ b ∷ c ∷ []) }
 {
-    let n = a % 64;
-    if n == 0 {
-        let id = b + 64;
-        return Some(id);
+    match a % 64 {
+        0 => Some(b as u32 + 64),
+        1 => Some(256 * c as u32 + b as u32 + 64),
+        n => Some(n),
     }
-    if n == 1 {
-        let id = 256 * c + b + 64;
-        return Some(id);
-    }
-    Some(n)
 }
 
-// What the bytes of a basic header say with one more.
-fn get_csid(h: Held, byte: u8) -> Option<u32>
-    requires { h.stage < 3 }
-    ensures { result ≡ csid (bytes_of (stage_in h) byte) }
+// A basic header so far: an id, or kept until more of it has come.
+pub fn basic(
+    h: Held,
+    rows: &[u32; TABLE_LENGTH],
+    first: u32,
+    read: Option<u32>,
+    kept: Stage,
+) -> Result<Done, ChunkRefusal>
+    ensures { told result ≡ done_of h (basic_by read (setting_in h) (look rows.now) (reader_from h) (format_of first) (stage_of kept)) }
 {
-    let last = byte as u32;
-    if h.stage == 0 {
-        return one(last);
-    }
-    if h.stage == 1 {
-        return two(h.number, last);
-    }
-    let second = h.lacks % 256;
-    three(h.number, second, last)
-}
-
-// Its first byte.
-fn first_of(h: Held, byte: u8) -> u32
-    requires { h.stage < 3 }
-    ensures { result ≡ get_or (bytes_of (stage_in h) byte) 0 0 }
-{
-    if h.stage == 0 {
-        return byte as u32;
-    }
-    h.number
-}
-
-// Kept, until more of it has come.
-fn keeps(h: Held, byte: u8) -> Done
-    requires { h.stage < 3 }
-    ensures { result ≡ done_of h (go (at (reader_from h) (kept_of (stage_in h) byte))) }
-{
-    let last = byte as u32;
-    if h.stage == 0 {
-        return goes(h, 1, last, 0);
-    }
-    if h.stage == 1 {
-        return goes(h, 2, h.number, last);
-    }
-    let second = h.lacks % 256;
-    goes(h, 2, h.number, second)
-}
-
-// A byte of a basic header: it says an id, or is kept.
-pub fn basic_byte(h: Held, rows: &[u32; TABLE_LENGTH], byte: u8) -> Done
-    requires { h.stage < 3 }
-    ensures { result ≡ done_of h (step_in (meant h rows.now) byte) }
-{
-    let read = get_csid(h, byte);
     let Some(id) = read else {
-        return keeps(h, byte);
+        return Ok(goes(h, kept));
     };
-    let first = first_of(h, byte);
     named(h, rows, first, id)
 }

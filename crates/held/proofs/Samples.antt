@@ -1,13 +1,12 @@
 -- What numbers mean and which stand for a decoder, on samples: each side computes to the other.
-use Prim.Native.Nat.{ℕ}
-use mathlib.Core.Path.{◌≡◌, refl}
-use mathlib.Core.List.{List, [], ◌∷◌}
+use Rattle.std.proofs.Common.{◌≡◌, refl, ℕ, List, [], ◌∷◌}
 use Rattle.chunk_header.specs.declared.ChunkHeaderFormat.TheVariants.{TimeDeltaOnly, Empty}
 use Rattle.byte_machine.specs.Reader.{CsidThird, InitialTimestamp, MessagePayload, current, reader, unfinished}
 use Rattle.chunk_meaning.specs.Stored.{row}
 use Rattle.decoding.specs.Told.{fresh}
 use Rattle.decoding.specs.Decoder.{Decoder}
-use Rattle.held.specs.Numbers.{again, decode, encode, format_from, stage_from}
+use Rattle.held.specs.Numbers.{again, decode, encode, format_from}
+use Rattle.held.specs.Stages.{stage_from, stage_in}
 use Rattle.byte_machine.specs.Setting.{setting}
 
 -- a decoder to which nothing has come, of 4096 bytes of room
@@ -31,12 +30,12 @@ begun_numbers : encode begun ≡ numbers
 begun_numbers = refl
 
 begun_means : decode numbers [] ≡ begun
-unfolding stage_from format_from
+unfolding stage_in format_from
 begun_means = refl
 
 -- numbers that no call makes mean the nearest thing, and `again` brings them to those that stand for it
 far_stage : stage_from 77 5 6 ≡ MessagePayload
-unfolding stage_from
+unfolding stage_in
 far_stage = refl
 
 far_format : format_from 4 ≡ Empty
@@ -44,9 +43,9 @@ unfolding format_from
 far_format = refl
 
 long_second : stage_from 2 64 513 ≡ CsidThird 64 1
-unfolding stage_from
+unfolding stage_in
 long_second = refl
 
 short_again : again (4096 ∷ 128 ∷ 0 ∷ 9 ∷ 5 ∷ 6 ∷ 4 ∷ []) ≡ 4096 ∷ 128 ∷ 0 ∷ 8 ∷ 0 ∷ 0 ∷ 3 ∷ 0 ∷ 0 ∷ 0 ∷ 0 ∷ 0 ∷ 0 ∷ 0 ∷ 0 ∷ 0 ∷ 0 ∷ 0 ∷ 0 ∷ 0 ∷ 0 ∷ 0 ∷ 0 ∷ 0 ∷ []
-unfolding stage_from format_from
+unfolding stage_in format_from
 short_again = refl

@@ -1,44 +1,69 @@
--- What a byte did, as numbers.
-use Rattle.std.specs.Prelude.{ℕ, cond}
-use Rattle.chunk_header.specs.declared.ChunkHeaderFormat.TheVariants.{Full}
-use Rattle.byte_machine.specs.Reader.{Event, Go, Chunk, Message, Refuse, Stepped, nowhere}
-use Rattle.decoding.specs.Call.{is_refusal}
+-- What a byte did to a decoder that is held: what it means in the machine.
+use Rattle.std.specs.Prelude.{ℕ, Result, Ok, Err}
+use Rattle.byte_machine.specs.Reader.{Event, Go, Chunk, Message, Refuse, Stepped}
+use Rattle.byte_machine.specs.Setting.{Setting}
+use Rattle.decoding.specs.Decoder.{Decoder}
+use Rattle.held.specs.declared.done.ChunkRefusal.{ChunkRefusal}
+use Rattle.held.specs.declared.done.ChunkRefusal.TheVariants.{UnknownStream, TooManyStreams, OtherStream, OtherHeader, SmallExtendedDelta, LengthOverRoom, Guard}
+use Rattle.held.specs.declared.done.Done.{Done}
+use Rattle.held.specs.declared.done.Event.{Event as HeldEvent}
+use Rattle.held.specs.declared.done.Event.TheVariants.{Go as Goes, Chunk as EndsChunk, Message as EndsMessage}
 use Rattle.held.specs.declared.numbers.Held.{Held}
-use Rattle.held.specs.declared.numbers.Done.{Done}
-use Rattle.held.specs.Numbers.{held_of, held_row, setting_in}
+use Rattle.held.specs.Numbers.{place_in, reader_from, setting_in}
 
--- what a byte settled: 0 nothing, 1 a chunk, 2 a message, 3 a refusal
-abbrev pub event_of : Event → ℕ
-event_of Go = 0
-event_of Chunk = 1
-event_of Message = 2
-event_of (Refuse k) = 3
+-- the number of a refusal
+abbrev pub refusal_number : ChunkRefusal → ℕ
+refusal_number UnknownStream = 9
+refusal_number TooManyStreams = 10
+refusal_number OtherStream = 11
+refusal_number OtherHeader = 12
+refusal_number SmallExtendedDelta = 13
+refusal_number LengthOverRoom = 14
+refusal_number Guard = 255
 
--- the number of a refusal; 0: none
-abbrev pub refusal_of : Event → ℕ
-refusal_of Go = 0
-refusal_of Chunk = 0
-refusal_of Message = 0
-refusal_of (Refuse k) = k
+-- .. where something is refused, and 0 where nothing is
+abbrev pub refused_by : Result (Unit {0}) ChunkRefusal → ℕ
+refused_by (Ok done) = 0
+refused_by (Err e) = refusal_number e
 
--- of a refusal only the number is kept
-abbrev pub nothing : Held
-nothing = record { room = 0; size = 0; closed = 0; stage = 0; number = 0; lacks = 0; format = Full; place = 0; left = 0; id = 0; got = 0; before = held_row 0 0 0 0 0 0; header = held_row 0 0 0 0 0 0 }
+-- what a byte settled, or that it is refused
+abbrev pub event_of : HeldEvent → Event
+event_of Goes = Go
+event_of EndsChunk = Chunk
+event_of EndsMessage = Message
 
--- a step as numbers, beside the room, the size and the closed number of a decoder
-abbrev pub done_of : Held → Stepped → Done
-done_of h s = record {
-  held = cond (is_refusal s.event) nothing (held_of (setting_in h) h.closed s.reader);
-  event = event_of s.event;
-  number = refusal_of s.event;
-  place = s.place;
+abbrev pub settled_by : Result HeldEvent ChunkRefusal → Event
+settled_by (Ok e) = event_of e
+settled_by (Err e) = Refuse (refusal_number e)
+
+-- a step, and what it leaves alone of a decoder: the room, the size and the number that it is closed with
+pub record Beside : Type 0 where
+  pub setting : Setting
+  pub closed : ℕ
+  pub step : Stepped
+
+abbrev pub meant_by : Done → Beside
+meant_by d = record {
+  setting = setting_in d.held;
+  closed = d.held.closed;
+  step = record { reader = reader_from d.held; event = event_of d.event; place = place_in d.place };
 }
 
--- the same numbers at another stage, and nothing settled
-abbrev pub goes_to : Held → (stage number lacks : ℕ) → Done
-goes_to h stage number lacks = record {
-  held = record { room = h.room; size = h.size; closed = h.closed; stage = stage; number = number; lacks = lacks; format = h.format; place = h.place; left = h.left; id = h.id; got = h.got; before = h.before; header = h.header };
-  event = 0;
-  number = 0;
-  place = nowhere;
-}
+-- what a byte did; of a refusal only the number is kept
+abbrev pub told : Result Done ChunkRefusal → Result Beside ℕ
+told (Ok d) = Ok (meant_by d)
+told (Err e) = Err (refusal_number e)
+
+-- what a step of the machine does, by what it settles
+abbrev pub done_by : Held → Stepped → Event → Result Beside ℕ
+done_by h s Go = Ok (record { setting = setting_in h; closed = h.closed; step = s })
+done_by h s Chunk = Ok (record { setting = setting_in h; closed = h.closed; step = s })
+done_by h s Message = Ok (record { setting = setting_in h; closed = h.closed; step = s })
+done_by h s (Refuse k) = Err k
+
+abbrev pub done_of : Held → Stepped → Result Beside ℕ
+done_of h s = done_by h s s.event
+
+-- a decoder closed with a number
+abbrev pub shut_with : Decoder → (closed : ℕ) → Decoder
+shut_with d closed = record { setting = d.setting; closed = closed; reader = d.reader; rows = d.rows }

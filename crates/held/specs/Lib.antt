@@ -1,3 +1,4 @@
--- a decoder as numbers, and what a byte did as numbers
+-- a decoder as numbers, and what a byte did to it
+pub mod Stages
 pub mod Numbers
 pub mod Done

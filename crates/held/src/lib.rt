@@ -1,14 +1,13 @@
 // A decoder as numbers that a caller lends, and its table of rows.
 #![tactic(auto)]
 
-mod amounts;
+mod done;
 mod numbers;
-mod renewing;
+pub mod places;
+mod stage;
 mod table;
 
-pub use crate::amounts::{lacking, least, wide};
-pub use crate::numbers::{Done, Held, HeldRow, format_from, goes, held_in, numbers_of, refused};
-pub use crate::renewing::{renew, shut};
-pub use crate::table::{
-    ROWS, TABLE_LENGTH, find, first_free, is_own, put_at, row_in, row_or_empty,
-};
+pub use crate::done::{ChunkRefusal, Done, Event, goes};
+pub use crate::numbers::{Held, HeldRow, claimed, held_in, numbers_of, renew, shut};
+pub use crate::stage::Stage;
+pub use crate::table::{ROWS, TABLE_LENGTH, find, first_free, is_own, put_at, row_in};

@@ -1,13 +1,15 @@
-// A decoder as numbers, and what a byte does to them.
-ghost use Rattle.std.specs.Prelude.{◌≡◌, ◌+◌, ◌<◌};
-ghost use Rattle.byte_machine.specs.Reader.{refuse};
-ghost use Rattle.held.specs.Done.{done_of, goes_to, nothing as Byte·nothing};
-ghost use Rattle.held.specs.Numbers.{format_from, held_in, numbers_of, reader_from, held_row_at};
+// A decoder as numbers.
+ghost use Rattle.std.specs.Prelude.{◌≡◌, [], ◌+◌, ◌<◌};
+ghost use Rattle.chunk_meaning.specs.Stored.{claimed};
+ghost use Rattle.held.specs.Numbers.{again, format_from, held_in, held_row_at, held_row_of, meant, numbers_of};
+ghost use Rattle.held.specs.Done.{shut_with};
 
-use chunk_header::{ChunkHeaderFormat, chunk_type};
+use crate::places;
+use crate::stage::{Stage, stage_in, stage_numbers};
+use chunk_header::ChunkHeaderFormat;
 
 // A row of the table.
-#[derive(Clone, Copy)]
+#[derive(Clone, Copy, Debug, PartialEq, Eq)]
 pub struct HeldRow {
     pub id: u32,
     pub time: u32,
@@ -17,16 +19,15 @@ pub struct HeldRow {
     pub stream: u32,
 }
 
-// A decoder without its table; specs/Numbers.antt says what each number stands for.
-#[derive(Clone, Copy)]
+// A decoder without its table; specs/Numbers.antt says which number stands for what.
+#[derive(Clone, Copy, Debug, PartialEq, Eq)]
 pub struct Held {
     pub room: u32,
     pub size: u32,
     pub closed: u32,
-    pub stage: u32,
-    pub number: u32,
-    pub lacks: u32,
+    pub stage: Stage,
     pub format: ChunkHeaderFormat,
+    // Kept: the table has this place or it has not, as any number may be lent (specs/Numbers.antt, decode); put_at tests it
     pub place: u32,
     pub left: u32,
     pub id: u32,
@@ -35,13 +36,18 @@ pub struct Held {
     pub header: HeldRow,
 }
 
-// What a byte of a header does: the numbers after it, what it settled, the number of a refusal, and the place of a row.
-#[derive(Clone, Copy)]
-pub struct Done {
-    pub held: Held,
-    pub event: u32,
-    pub number: u32,
-    pub place: u32,
+// The row that a stream claims, of which nothing has come.
+pub fn claimed(id: u32) -> HeldRow
+    ensures { result ≡ held_row_of (claimed id) }
+{
+    HeldRow {
+        id,
+        time: 0,
+        field: 0,
+        length: 0,
+        kind: 0,
+        stream: 0,
+    }
 }
 
 // Six of the numbers, as a row.
@@ -59,114 +65,67 @@ fn held_row(held: &[u32; 24], at: usize) -> HeldRow
     }
 }
 
-// A number over 3 means type 3.
-// The format that a type's number means.
-pub fn format_from(kind: u32) -> ChunkHeaderFormat
+// The format that a type's number means: one over 3 means type 3.
+#[tactic(auto, unfolding(crate::specs::Numbers::format_from))]
+fn format_from(kind: u32) -> ChunkHeaderFormat
     ensures { result ≡ format_from kind }
 {
-    if kind == 0 {
-        return ChunkHeaderFormat::Full;
+    match kind {
+        0 => ChunkHeaderFormat::Full,
+        1 => ChunkHeaderFormat::TimeDeltaWithoutMessageStreamId,
+        2 => ChunkHeaderFormat::TimeDeltaOnly,
+        _ => ChunkHeaderFormat::Empty,
     }
-    if kind == 1 {
-        return ChunkHeaderFormat::TimeDeltaWithoutMessageStreamId;
-    }
-    if kind == 2 {
-        return ChunkHeaderFormat::TimeDeltaOnly;
-    }
-    ChunkHeaderFormat::Empty
 }
 
-// The numbers that are lent, as a record ..
+// The decoder that numbers mean ..
 pub fn held_in(held: &[u32; 24]) -> Held
     ensures { result ≡ held_in held.now }
 {
-    let before = held_row(held, 11);
-    let header = held_row(held, 17);
     Held {
-        room: held[0],
-        size: held[1],
-        closed: held[2],
-        stage: held[3],
-        number: held[4],
-        lacks: held[5],
-        format: format_from(held[6]),
-        place: held[7],
-        left: held[8],
-        id: held[9],
-        got: held[10],
-        before,
-        header,
+        room: held[places::ROOM],
+        size: held[places::SIZE],
+        closed: held[places::CLOSED],
+        stage: stage_in(
+            held[places::STAGE],
+            held[places::GATHERED],
+            held[places::LACKS],
+        ),
+        format: format_from(held[places::FORMAT]),
+        place: held[places::PLACE],
+        left: held[places::LEFT],
+        id: held[places::ID],
+        got: held[places::GOT],
+        before: held_row(held, places::BEFORE),
+        header: held_row(held, places::HEADER),
     }
 }
 
-// .. and back.
+// .. and those that stand for a decoder.
 pub fn numbers_of(h: Held) -> [u32; 24]
     ensures { result ≡ numbers_of h }
 {
+    let [stage, gathered, lacks] = stage_numbers(h.stage);
+    let format = h.format as u32;
     let b = h.before;
     let k = h.header;
-    let format = chunk_type(h.format) as u32;
     [
-        h.room, h.size, h.closed, h.stage, h.number, h.lacks, format, h.place, h.left, h.id,
-        h.got, b.id, b.time, b.field, b.length, b.kind, b.stream, k.id, k.time, k.field, k.length,
-        k.kind, k.stream, 0,
+        h.room, h.size, h.closed, stage, gathered, lacks, format, h.place, h.left, h.id, h.got,
+        b.id, b.time, b.field, b.length, b.kind, b.stream, k.id, k.time, k.field, k.length, k.kind,
+        k.stream, 0,
     ]
 }
 
-// Of a refusal only the number counts.
-fn nothing() -> Held
-    ensures { result ≡ Byte·nothing }
+// The decoder, closed with a number.
+pub fn shut(h: Held, closed: u32) -> Held
+    ensures { meant result [] ≡ shut_with (meant h []) closed }
 {
-    let row = HeldRow {
-        id: 0,
-        time: 0,
-        field: 0,
-        length: 0,
-        kind: 0,
-        stream: 0,
-    };
-    Held {
-        room: 0,
-        size: 0,
-        closed: 0,
-        stage: 0,
-        number: 0,
-        lacks: 0,
-        format: ChunkHeaderFormat::Full,
-        place: 0,
-        left: 0,
-        id: 0,
-        got: 0,
-        before: row,
-        header: row,
-    }
+    Held { closed, ..h }
 }
 
-// A byte that is refused.
-pub fn refused(h: Held, number: u32) -> Done
-    ensures { result ≡ done_of h (refuse (reader_from h) number) }
+// The same decoder, in the numbers that stand for it.
+pub fn renew(held: &mut [u32; 24])
+    ensures { held.new ≡ again held.old }
 {
-    let held = nothing();
-    Done {
-        held: held,
-        event: 3,
-        number: number,
-        place: 64,
-    }
-}
-
-// A byte that only goes on, to another stage.
-pub fn goes(h: Held, stage: u32, number: u32, lacks: u32) -> Done
-    ensures { result ≡ goes_to h stage number lacks }
-{
-    let mut next = h;
-    next.stage = stage;
-    next.number = number;
-    next.lacks = lacks;
-    Done {
-        held: next,
-        event: 0,
-        number: 0,
-        place: 64,
-    }
+    *held = numbers_of(held_in(held));
 }

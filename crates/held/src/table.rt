@@ -1,9 +1,8 @@
 // The table of 64 header rows, lent as numbers: six a row, and after them how many rows are used, from the first on.
-ghost use Rattle.std.specs.Prelude.{◌≡◌, ◌<◌};
-ghost use Rattle.byte_machine.specs.Rows.{counted, find as Rows·find, free, is_own, put_at, put_row, row_at, row_count, row_or_empty, used as Rows·used};
-ghost use Rattle.held.specs.Numbers.{row_from, held_row_of};
+ghost use Rattle.std.specs.Prelude.{◌≡◌, ◌<◌, IfSome};
+ghost use Rattle.byte_machine.specs.Rows.{counted, find as Rows·find, free, is_own, put_at, put_row, row_at, row_count, used as Rows·used};
+ghost use Rattle.held.specs.Numbers.{row_from, held_row_of, place_in};
 
-use crate::amounts::{least, wide};
 use crate::numbers::HeldRow;
 
 pub const ROWS: usize = 64;
@@ -17,28 +16,30 @@ const COUNT: usize = 384;
 fn used(rows: &[u32; TABLE_LENGTH]) -> usize
     ensures { result ≡ Rows·used rows.now }
 {
-    wide(least(rows[COUNT], 64))
+    rows[COUNT].min(64) as usize
 }
 
-// The row of this id, searched from the newest row back, or 64.
-pub fn find(rows: &[u32; TABLE_LENGTH], id: u32) -> usize
-    ensures { result ≡ Rows·find rows.now id }
+// The row of this id, searched from the newest row back.
+pub fn find(rows: &[u32; TABLE_LENGTH], id: u32) -> Option<usize>
+    ensures found { place_in result ≡ Rows·find rows.now id }
+    ensures within { IfSome result (λ i. i < row_count) }
 {
-    let mut i = used(rows);
-    while 0 < i {
-        i -= 1;
+    for i in (0..used(rows)).rev() {
         if rows[6 * i] == id {
-            return i;
+            return Some(i);
         }
     }
-    ROWS
+    None
 }
 
-// The first free row, or 64.
-pub fn first_free(rows: &[u32; TABLE_LENGTH]) -> usize
-    ensures { result ≡ free rows.now }
+// The first free row, which is the one after those used.
+#[tactic(auto, unfolding(byte_machine::specs::Rows::free))]
+pub fn first_free(rows: &[u32; TABLE_LENGTH]) -> Option<usize>
+    ensures found { place_in result ≡ free rows.now }
+    ensures within { IfSome result (λ i. i < row_count) }
 {
-    used(rows)
+    let free = used(rows);
+    if free < ROWS { Some(free) } else { None }
 }
 
 // Whether the row at a place, put over itself, stays as it is: the number of its type is a byte.
@@ -65,6 +66,7 @@ pub fn row_in(rows: &[u32; TABLE_LENGTH], i: usize) -> HeldRow
 }
 
 // Counts the row at a place as used, and those before it.
+#[tactic(auto, unfolding(byte_machine::specs::Rows::counted))]
 fn count(rows: &mut [u32; TABLE_LENGTH], i: usize)
     requires { i < row_count }
     ensures { rows.new ≡ counted rows.old i }
@@ -88,28 +90,12 @@ fn put_row(rows: &mut [u32; TABLE_LENGTH], i: usize, row: HeldRow)
     rows[at + 5] = row.stream;
 }
 
-// The row at a place; an empty one where the table has none there.
-pub fn row_or_empty(rows: &[u32; TABLE_LENGTH], place: usize) -> HeldRow
-    ensures { result ≡ held_row_of (row_or_empty rows.now place) }
+// The same, where there is a place and the table has it.
+pub fn put_at(rows: &mut [u32; TABLE_LENGTH], place: Option<u32>, row: HeldRow)
+    ensures { rows.new ≡ put_at rows.old (place_in place) (row_from row) }
 {
-    if place < ROWS {
-        return row_in(rows, place);
-    }
-    HeldRow {
-        id: 0,
-        time: 0,
-        field: 0,
-        length: 0,
-        kind: 0,
-        stream: 0,
-    }
-}
-
-// The same, where the table has that place.
-pub fn put_at(rows: &mut [u32; TABLE_LENGTH], place: u32, row: HeldRow)
-    ensures { rows.new ≡ put_at rows.old place (row_from row) }
-{
-    if place < 64 {
-        put_row(rows, place as usize, row);
+    match place {
+        Some(place) if place < 64 => put_row(rows, place as usize, row),
+        _ => {}
     }
 }

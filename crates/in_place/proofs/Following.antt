@@ -1,18 +1,11 @@
 -- Chunks that follow change nothing but the payload and how much of the message has come, so that a run of them is taken before
 -- the numbers are stored.
-use Prim.Native.Nat.{ℕ, ◌+◌, ◌-◌, ◌≤◌, ◌<◌, min}
-use mathlib.Core.Path.{◌≡◌, refl, sym, ap, ◌∙◌}
-use mathlib.Core.Logic.{◌≢◌}
-use mathlib.Core.Bool.{Bool, true, false}
-use mathlib.Core.List.{List}
-use native.Mathlib.Omega.{arith}
-use lib.Dec.{eqb}
-use lib.ListN.{drop, get_or, length, take}
-use lib.Seq.{sets}
-use borrow.Author.Tests.{eqb-false, eqb-true}
+use Rattle.std.proofs.Common.{ℕ, ◌+◌, ◌-◌, ◌≤◌, ◌<◌, min, ◌≡◌, refl, sym, ap, ◌∙◌, ◌≢◌, Bool, true, false, List, arith, eqb, drop, get_or, length, take, eqb-true, Ok}
+use Rattle.std.proofs.lemmas.Bool.{eqb-false}
+use Rattle.std.proofs.lemmas.List.Edits.{sets}
 use Rattle.chunk_meaning.specs.Stored.{Row}
-use Rattle.byte_machine.specs.Rows.{find, put_row, row_at, row_count, row_or_empty}
-use Rattle.byte_machine.proofs.RowLaws.{in_table, put_own_lem}
+use Rattle.byte_machine.specs.Rows.{find, put_row, row_at, row_count}
+use Rattle.byte_machine.proofs.RowLaws.{put_own_lem}
 use Rattle.decoding.specs.Call.{Outcome, run}
 use Rattle.decoding.specs.Further.{Amid, Next, gone}
 use Rattle.decoding.specs.Decoder.{Decoder}
@@ -25,8 +18,9 @@ use Rattle.held.proofs.Stages.{is_csid}
 use Rattle.in_place.specs.declared.further.Gone.{Gone}
 use Rattle.in_place.specs.declared.paying.Moved.{Moved}
 use Rattle.in_place.specs.Follow.{Follows, Goes, Paused, Plain, gone_to}
-use Rattle.in_place.specs.Turn.{Turned}
-use Rattle.in_place.proofs.Stepping.{follows_on}
+use Rattle.held.specs.Done.{settled_by}
+use Rattle.held.specs.declared.done.Event.TheVariants.{Chunk as EndsChunk}
+use Rattle.in_place.specs.Turn.{Turned, follows}
 
 module _ (size id long come : ℕ) (input : List ℕ) (start : ℕ) (payload : List ℕ) where
   -- none yet
@@ -71,7 +65,7 @@ follows_none held rows input at payload k = record { on = omega arith; within = 
 
 -- some do
 module _ (held rows input : List ℕ) (at place : ℕ) (payload : List ℕ) (row : HeldRow) (p : Paused held) (place_is : place ≡ find rows (get_or held 9 0)) (found : place < row_count)
-    (row_is : row ≡ held_row_of (row_or_empty rows place)) (k : Plain rows place row (get_or held 0 0)) where
+    (row_is : row ≡ held_row_of (row_at rows place)) (k : Plain rows place row (get_or held 0 0)) where
   abbrev d : Decoder
   d = decode held rows
 
@@ -79,7 +73,7 @@ module _ (held rows input : List ℕ) (at place : ℕ) (payload : List ℕ) (row
   r = row_at rows place
 
   its_row : row ≡ held_row_of r
-  its_row = row_is ∙ ap (λ (x : Row). held_row_of x) (in_table rows place found)
+  its_row = row_is
 
   amid : Amid d place r
   amid =
@@ -117,9 +111,9 @@ module _ (held rows input : List ℕ) (at place : ℕ) (payload : List ℕ) (row
       }
 
 -- a turn that ended a chunk, and the chunks that follow
-pub turned_further : (m : Moved) (at : ℕ) (held rows input payload held₁ rows₁ payload₁ held₂ payload₂ : List ℕ) → Turned m held rows input payload held₁ rows₁ payload₁ → m.event ≡ 1
+pub turned_further : (m : Moved) (at : ℕ) (held rows input payload held₁ rows₁ payload₁ held₂ payload₂ : List ℕ) → Turned m held rows input payload held₁ rows₁ payload₁ → m.event ≡ Ok EndsChunk
     → Follows at held₁ rows₁ input m.used payload₁ held₂ payload₂
-    → Turned (record { event = 1; used = at }) held rows input payload held₂ rows₁ payload₂
+    → Turned (record { event = m.event; used = at }) held rows input payload held₂ rows₁ payload₂
 turned_further m at held rows input payload held₁ rows₁ payload₁ held₂ payload₂ t e f = record {
   some = omega (arith, t.some, f.on);
   within = f.within;
@@ -127,9 +121,12 @@ turned_further m at held rows input payload held₁ rows₁ payload₁ held₂ p
   kept = f.kept t.kept;
   runs = λ n.
       t.runs n
-      ∙ follows_on m.event (decode held₁ rows₁) payload₁ (n + m.used) (drop m.used input) (λ z. absurd (omega (arith, e, z))) (λ z. absurd (omega (arith, e, z)))
+      ∙ goes_on (decode held₁ rows₁) payload₁ (n + m.used) (drop m.used input)
       ∙ run_shift (drop m.used input) (decode held₁ rows₁) payload₁ n m.used
       ∙ ap (λ (o : Outcome). shift n o) f.runs
       ∙ sym (run_shift (drop at input) (decode held₂ rows₁) payload₂ n at)
-      ∙ sym (follows_on 1 (decode held₂ rows₁) payload₂ (n + at) (drop at input) (λ z. absurd (omega (arith, z))) (λ z. absurd (omega (arith, z))));
+      ∙ sym (goes_on (decode held₂ rows₁) payload₂ (n + at) (drop at input));
 }
+  where
+    goes_on : (d : Decoder) (payload : List ℕ) (used : ℕ) (rest : List ℕ) → follows (settled_by m.event) d payload used rest ≡ run rest d payload used
+    goes_on d payload used rest = rw e

@@ -1,47 +1,27 @@
 -- A room and a size, judged as the definition judges them: the first line that holds decides.
-use Prim.Native.Nat.{ℕ, zero, suc, ◌≤◌, ◌<◌}
-use mathlib.Core.Path.{◌≡◌, refl}
-use mathlib.Core.Logic.{◌≢◌}
-use mathlib.Core.Bool.{true, false}
-use mathlib.Core.List.{List, []}
-use native.Mathlib.Omega.{arith}
-use lib.ListN.{get_or}
-use borrow.Author.Tests.{eq-eqb, ne_eqb, lt-ltb, le-ltb}
+use Rattle.std.proofs.Common.{sym, eqb, ℕ, zero, suc, ◌≤◌, ◌<◌, ◌≡◌, refl, ◌≢◌, true, false, List, [], arith, get_or, eq-eqb, ne_eqb, lt-ltb, le-ltb}
 use Rattle.chunk_header.specs.Limits.{max_size}
 use Rattle.byte_machine.specs.Reader.{at_start}
-use Rattle.decoding.specs.Told.{Outcome, Size, between, fresh, made, max_room, outcome, refused, sized, taken, told}
+use Rattle.decoding.specs.Told.{Outcome, Size, between, outcome, refused, sized, taken, told}
 use Rattle.decoding.specs.Decoder.{Decoder}
-use Rattle.held.specs.Numbers.{again, decode, encode, stage_from}
+use Rattle.held.specs.Numbers.{again, decode, encode}
+use Rattle.held.specs.Stages.{stage_from, stage_in}
 use Rattle.held.proofs.Again.{decode_encode, again_means, from_small}
 use Rattle.held.proofs.Stages.{is_payload_lem}
 use Rattle.in_place.specs.Answer.{LentSize, LentTold, Stands}
 
 -- before the first byte of a chunk only at stage 0
-pub not_start : (s n l : ℕ) → s ≢ 0 → at_start (stage_from s n l) ≡ false
-unfolding stage_from
-not_start zero n l h = absurd (h refl)
-not_start (suc zero) n l h = refl
-not_start (suc (suc zero)) n l h = refl
-not_start (suc (suc (suc zero))) n l h = refl
-not_start (suc (suc (suc (suc zero)))) n l h = refl
-not_start (suc (suc (suc (suc (suc zero))))) n l h = refl
-not_start (suc (suc (suc (suc (suc (suc zero)))))) n l h = refl
-not_start (suc (suc (suc (suc (suc (suc (suc zero))))))) n l h = refl
-not_start (suc (suc (suc (suc (suc (suc (suc (suc s)))))))) n l h = rw (is_payload_lem (suc (suc (suc (suc (suc (suc (suc (suc s)))))))) n l (omega arith))
-
--- a room of 0, or too large, and any other
-module _ (room : ℕ) where
-  pub made_none : room ≡ 0 → made room ≡ outcome (refused 6) (fresh room 6)
-  unfolding made
-  made_none h = rw (eq-eqb room 0 h)
-
-  pub made_large : room ≢ 0 → max_room < room → made room ≡ outcome (refused 6) (fresh room 6)
-  unfolding made
-  made_large h k = rw (ne_eqb room 0 h, lt-ltb max_room room k)
-
-  pub made_fits : room ≢ 0 → room ≤ max_room → made room ≡ outcome taken (fresh room 0)
-  unfolding made
-  made_fits h k = rw (ne_eqb room 0 h, le-ltb max_room room k)
+pub start_from : (s n l : ℕ) → at_start (stage_from s n l) ≡ eqb s 0
+unfolding stage_in
+start_from zero n l = refl
+start_from (suc zero) n l = refl
+start_from (suc (suc zero)) n l = refl
+start_from (suc (suc (suc zero))) n l = refl
+start_from (suc (suc (suc (suc zero)))) n l = refl
+start_from (suc (suc (suc (suc (suc zero))))) n l = refl
+start_from (suc (suc (suc (suc (suc (suc zero)))))) n l = refl
+start_from (suc (suc (suc (suc (suc (suc (suc zero))))))) n l = refl
+start_from (suc (suc (suc (suc (suc (suc (suc (suc s)))))))) n l = rw (is_payload_lem (suc (suc (suc (suc (suc (suc (suc (suc s)))))))) n l (omega arith)) (sym (ne_eqb (suc (suc (suc (suc (suc (suc (suc (suc s)))))))) 0 (omega arith)))
 
 pub made_lent : (o : Outcome) (answer : Size) (d : Decoder) (held rows : List ℕ) → o ≡ outcome answer d → Stands held rows d → LentSize answer held rows o
 made_lent o answer d held rows e s = rw e (record { answer_is = refl; stands = s })

@@ -1,8 +1,6 @@
 -- What a call leaves of what is lent, and what it answers, is decided by the definition's outcome, since an answer can be told from
 -- its listing.
-use Prim.Native.Nat.{ℕ}
-use mathlib.Core.Path.{◌≡◌, refl, sym, ◌∙◌}
-use mathlib.Core.List.{List}
+use Rattle.std.proofs.Common.{ℕ, ◌≡◌, refl, sym, ◌∙◌, List}
 use Rattle.fields.specs.Deciding.{Decides}
 use Rattle.fields.proofs.Deciding.{told_decides}
 use Rattle.decoding.specs.Answer.{Listed, message, more, refused}

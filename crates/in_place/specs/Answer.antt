@@ -1,7 +1,7 @@
 -- Each answer's number and values, as document 01 lists them, and what making a decoder and telling it a size leave of what is lent.
 use Rattle.std.specs.Prelude.{ℕ, List, ◌≡◌, Result, Ok, Err}
 use Rattle.decoding.specs.Answer.{Listed, message, more, refused}
-use Rattle.decoding.specs.Told.{Size, taken, told, refused as Told·refused, Outcome as Told-as-Outcome}
+use Rattle.decoding.specs.Told.{Size, taken, told, refused as told_refused, Outcome as Told-as-Outcome}
 use Rattle.decoding.specs.Decoder.{Decoder}
 use Rattle.held.specs.Numbers.{decode, encode}
 use Rattle.in_place.specs.declared.answer.Answer.{Answer}
@@ -23,7 +23,7 @@ pub record Stands (held rows : List ℕ) (d : Decoder) : Type 0 where
 -- of making a decoder and of telling it a size
 abbrev pub size_of : Result (Unit {0}) Refusal → Size
 size_of (Ok done) = taken
-size_of (Err e) = Told·refused e.number
+size_of (Err e) = told_refused e.number
 
 pub record LentSize (answer : Size) (held rows : List ℕ) (o : Told-as-Outcome) : Type 0 where
   pub answer_is : answer ≡ o.answer

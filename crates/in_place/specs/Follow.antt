@@ -9,6 +9,7 @@ use Rattle.decoding.specs.Further.{Amid, Next, gone}
 use Rattle.decoding.specs.Decoder.{Decoder}
 use Rattle.held.specs.declared.numbers.Held.{Held}
 use Rattle.held.specs.declared.numbers.HeldRow.{HeldRow}
+use Rattle.held.specs.declared.stage.Stage.TheVariants.{Csid as AtCsid}
 use Rattle.held.specs.Numbers.{again, decode}
 use Rattle.in_place.specs.declared.further.Gone.{Gone}
 
@@ -57,9 +58,7 @@ gone_to held place row got = record {
   room = get_or held 0 0;
   size = get_or held 1 0;
   closed = get_or held 2 0;
-  stage = 0;
-  number = 0;
-  lacks = 0;
+  stage = AtCsid;
   format = Empty;
   place = place;
   left = 0;

@@ -1,6 +1,6 @@
 // What a call answers.
 ghost use Rattle.std.specs.Prelude.{◌≡◌};
-ghost use Rattle.decoding.specs.Answer.{refused as Answer·refused};
+ghost use Rattle.decoding.specs.Answer.{refused as answer_refused};
 ghost use Rattle.decoding.specs.Call.{read};
 ghost use Rattle.held.specs.Numbers.{held_in, reader_from};
 ghost use Rattle.in_place.specs.Answer.{answer_of};
@@ -39,7 +39,7 @@ pub fn handed(held: &[u32; 24], used: usize) -> Answer
 }
 
 pub fn refused(number: u32, used: usize) -> Answer
-    ensures { answer_of result ≡ Answer·refused number used }
+    ensures { answer_of result ≡ answer_refused number used }
 {
     Answer::Refused { number, used }
 }

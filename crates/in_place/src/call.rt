@@ -6,7 +6,7 @@ ghost use Rattle.in_place.specs.Answer.{answer_of};
 
 use crate::answer::{Answer, handed, refused};
 use crate::turning::turns;
-use held::{TABLE_LENGTH, renew, wide};
+use held::{TABLE_LENGTH, places, renew};
 use one_stroke::{at_once, within};
 
 // A closed decoder, or too short a buffer, or the bytes of the input.
@@ -18,12 +18,12 @@ fn by_turns(
 ) -> Answer
     ensures { Lent (answer_of result) held.new rows.new payload.new (next (decode held.old rows.old) input.now payload.old) }
 {
-    let closed = held[2];
+    let closed = held[places::CLOSED];
     if closed != 0 {
         renew(held);
         return refused(closed, 0);
     }
-    if payload.len() < wide(held[0]) {
+    if payload.len() < held[places::ROOM] as usize {
         renew(held);
         return refused(7, 0);
     }
@@ -47,8 +47,7 @@ pub fn next_message(
     if within(held, input, payload) {
         return Answer::More { used: input.len() };
     }
-    let used = at_once(held, rows, input, payload);
-    if used != 0 {
+    if let Some(used) = at_once(held, rows, input, payload) {
         return handed(held, used);
     }
     by_turns(held, rows, input, payload)

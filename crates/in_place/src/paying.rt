@@ -1,76 +1,76 @@
 // A stretch of payload.
-ghost use Rattle.std.specs.Prelude.{◌≡◌, ◌+◌, ◌≤◌};
-ghost use Rattle.byte_machine.specs.Payload.{landed as Payload·landed};
-ghost use Rattle.held.specs.Done.{done_of};
+ghost use Rattle.std.specs.Prelude.{◌≡◌, ◌+◌, ◌≤◌, Ok};
+ghost use Rattle.byte_machine.specs.Payload.{landed as payload_landed};
+ghost use Rattle.held.specs.Done.{done_of, meant_by};
 ghost use Rattle.held.specs.Numbers.{held_in, reader_from};
 ghost use Rattle.in_place.specs.Turn.{Ready, Turned, may_pay};
 
-use fields::{least, put_bytes};
-use held::{Done, Held, TABLE_LENGTH, held_in, numbers_of, put_at, wide};
+use fields::put_bytes;
+use held::{
+    ChunkRefusal, Done, Event, Held, Stage, TABLE_LENGTH, held_in, numbers_of, places, put_at,
+};
 
-// What a turn settled, and how many bytes it used.
-#[derive(Clone, Copy)]
+// What a turn settled, or why it is refused, and how many bytes it used.
+#[derive(Clone, Copy, Debug, PartialEq, Eq)]
 pub struct Moved {
-    pub event: u32,
+    pub event: Result<Event, ChunkRefusal>,
     pub used: usize,
 }
 
 // Whether payload may come: the chunk at hand lacks a byte, and ends within the room.
+#[tactic(auto, using(held::proofs::Stages::payload_from, crate::proofs::Landing::same_test), unfolding(byte_machine::specs::Payload::pays))]
 pub fn may_pay(held: &[u32; 24]) -> bool
     ensures { result ≡ may_pay (held_in held.now) }
 {
-    let room = held[0];
-    let left = held[8];
-    if held[3] < 8 {
+    let room = held[places::ROOM];
+    let left = held[places::LEFT];
+    if held[places::STAGE] < 8 || left == 0 || room < left {
         return false;
     }
-    if left == 0 {
-        return false;
-    }
-    if room < left {
-        return false;
-    }
-    held[10] <= room - left
+    held[places::GOT] <= room - left
 }
 
 // After n bytes of payload.
+#[tactic(auto, unfolding(byte_machine::specs::Payload::landed))]
 fn landed(h: Held, n: u32) -> Done
-    requires { (8 ≤ h.stage) × ((n ≤ h.left) × (h.got + h.left ≤ 0xffff_ffff)) }
-    ensures { result ≡ done_of h (Payload·landed (reader_from h) n) }
+    requires { (n ≤ h.left) × (h.got + h.left ≤ 0xffff_ffff) }
+    ensures { Ok (meant_by result) ≡ done_of h (payload_landed (reader_from h) n) }
 {
     let got = h.got + n;
     let left = h.left - n;
-    let mut next = h;
-    next.number = 0;
-    next.lacks = 0;
-    next.got = got;
-    next.left = left;
     if left != 0 {
-        next.stage = 8;
         return Done {
-            held: next,
-            event: 0,
-            number: 0,
-            place: 64,
+            held: Held { got, left, ..h },
+            event: Event::Go,
+            place: None,
         };
     }
-    next.stage = 0;
+    let place = Some(h.place);
+    let stage = Stage::Csid;
     if got < h.header.length {
-        next.id = h.header.id;
+        let id = h.header.id;
         return Done {
-            held: next,
-            event: 1,
-            number: 0,
-            place: h.place,
+            held: Held {
+                stage,
+                left,
+                id,
+                got,
+                ..h
+            },
+            event: Event::Chunk,
+            place,
         };
     }
-    next.id = 0;
-    next.got = 0;
     Done {
-        held: next,
-        event: 2,
-        number: 0,
-        place: h.place,
+        held: Held {
+            stage,
+            left,
+            id: 0,
+            got: 0,
+            ..h
+        },
+        event: Event::Message,
+        place,
     }
 }
 
@@ -85,15 +85,13 @@ pub fn pay(
     ensures { Turned result held.old rows.old input.now payload.old held.new rows.new payload.new }
 {
     let h = held_in(held);
-    let n = least(input.len(), wide(h.left));
+    let n = input.len().min(h.left as usize);
     let done = landed(h, n as u32);
-    let next = done.held;
-    let numbers = numbers_of(next);
-    *held = numbers;
-    put_at(rows, done.place, next.header);
-    put_bytes(&input[0..n], payload, wide(h.got));
+    *held = numbers_of(done.held);
+    put_at(rows, done.place, done.held.header);
+    put_bytes(&input[0..n], payload, h.got as usize);
     Moved {
-        event: done.event,
+        event: Ok(done.event),
         used: n,
     }
 }

@@ -1,46 +1,32 @@
 // Making a decoder in what is lent, and telling it a chunk size.
 ghost use Rattle.std.specs.Prelude.{[], ◌≡◌};
-ghost use Rattle.decoding.specs.Told.{between as Told·between, fresh as Told·fresh, made, refused as Told·refused, sized};
+ghost use Rattle.decoding.specs.Told.{between as told_between, fresh as told_fresh, made, refused as told_refused, sized};
 ghost use Rattle.held.specs.Numbers.{again, decode, encode, held_in, reader_from};
 ghost use Rattle.in_place.specs.Answer.{LentSize, LentTold, Stands, size_of};
 
 use crate::refusal::Refusal;
-use chunk_header::{INITIAL_MAX_CHUNK_SIZE, LARGEST_CHUNK_SIZE, LARGEST_ROOM};
-use held::{TABLE_LENGTH, held_in, numbers_of, renew};
+use chunk_header::{ChunkHeaderFormat, INITIAL_MAX_CHUNK_SIZE, LARGEST_CHUNK_SIZE, LARGEST_ROOM};
+use held::{Held, ROWS, Stage, TABLE_LENGTH, claimed, held_in, numbers_of, places, renew};
 
 // A decoder to which nothing has come.
 fn fresh(held: &mut [u32; 24], rows: &mut [u32; TABLE_LENGTH], room: u32, closed: u32)
-    ensures { Stands held.new rows.new (Told·fresh room closed) }
+    ensures { Stands held.new rows.new (told_fresh room closed) }
 {
-    let numbers = [
+    let row = claimed(0);
+    *held = numbers_of(Held {
         room,
-        INITIAL_MAX_CHUNK_SIZE,
+        size: INITIAL_MAX_CHUNK_SIZE,
         closed,
-        0,
-        0,
-        0,
-        0,
-        64,
-        0,
-        0,
-        0,
-        0,
-        0,
-        0,
-        0,
-        0,
-        0,
-        0,
-        0,
-        0,
-        0,
-        0,
-        0,
-        0,
-    ];
-    let none = [0; TABLE_LENGTH];
-    *held = numbers;
-    *rows = none;
+        stage: Stage::Csid,
+        format: ChunkHeaderFormat::Full,
+        place: ROWS as u32,
+        left: 0,
+        id: 0,
+        got: 0,
+        before: row,
+        header: row,
+    });
+    *rows = [0; TABLE_LENGTH];
 }
 
 // A decoder for messages of at most `room` bytes, whatever was in the arrays.
@@ -57,28 +43,25 @@ pub fn make(held: &mut [u32; 24], rows: &mut [u32; TABLE_LENGTH], room: u32) -> 
 }
 
 // No byte of a message has come that has not ended.
+#[tactic(auto, using(crate::proofs::Sizes::start_from))]
 fn between(held: &[u32; 24]) -> bool
-    ensures { result ≡ Told·between (reader_from (held_in held.now)) }
+    ensures { result ≡ told_between (reader_from (held_in held.now)) }
 {
-    if held[3] != 0 {
-        return false;
-    }
-    held[9] == 0
+    held[places::STAGE] == 0 && held[places::ID] == 0
 }
 
 // The decoder with another size.
 fn resize(held: &mut [u32; 24], size: u32)
     ensures { held.new ≡ encode (sized (decode held.old []) size) }
 {
-    renew(held);
-    let mut next = held_in(held);
-    next.size = size;
-    let numbers = numbers_of(next);
-    *held = numbers;
+    *held = numbers_of(Held {
+        size,
+        ..held_in(held)
+    });
 }
 
 fn refused(held: &mut [u32; 24], number: u32) -> Result<(), Refusal>
-    ensures { (size_of result ≡ Told·refused number) × (held.new ≡ again held.old) }
+    ensures { (size_of result ≡ told_refused number) × (held.new ≡ again held.old) }
 {
     renew(held);
     Err(Refusal { number })
@@ -88,7 +71,7 @@ fn refused(held: &mut [u32; 24], number: u32) -> Result<(), Refusal>
 pub fn set_max_chunk_size(held: &mut [u32; 24], new_size: u32) -> Result<(), Refusal>
     ensures { LentTold (size_of result) held.old new_size held.new }
 {
-    let closed = held[2];
+    let closed = held[places::CLOSED];
     if closed != 0 {
         return refused(held, closed);
     }
@@ -109,5 +92,5 @@ pub fn set_max_chunk_size(held: &mut [u32; 24], new_size: u32) -> Result<(), Ref
 pub fn get_max_chunk_size(held: &[u32; 24]) -> u32
     ensures { result ≡ (held_in held.now).size }
 {
-    held[1]
+    held[places::SIZE]
 }

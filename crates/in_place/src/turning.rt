@@ -10,7 +10,7 @@ use crate::answer::{Answer, handed, refused};
 use crate::further::further;
 use crate::paying::{Moved, may_pay, pay};
 use header_in_place::take_byte;
-use held::TABLE_LENGTH;
+use held::{Event, TABLE_LENGTH};
 
 // Takes a stretch of a payload, or a byte of a header ..
 fn once(
@@ -25,9 +25,8 @@ fn once(
     if may_pay(held) {
         return pay(held, rows, input, payload);
     }
-    let event = take_byte(held, rows, input[0]);
     Moved {
-        event: event,
+        event: take_byte(held, rows, input[0]),
         used: 1,
     }
 }
@@ -43,11 +42,13 @@ fn turn(
     ensures { Turned result held.old rows.old input.now payload.old held.new rows.new payload.new }
 {
     let moved = once(held, rows, input, payload);
-    if moved.event != 1 {
+    let Ok(Event::Chunk) = moved.event else {
         return moved;
+    };
+    Moved {
+        used: further(held, rows, input, moved.used, payload),
+        ..moved
     }
-    let at = further(held, rows, input, moved.used, payload);
-    Moved { event: 1, used: at }
 }
 
 pub fn turns(
@@ -62,12 +63,12 @@ pub fn turns(
     let mut at = 0;
     while at < input.len() {
         let moved = turn(held, rows, &input[at..], payload);
-        at = at + moved.used;
-        if moved.event == 2 {
-            return handed(held, at);
-        }
-        if moved.event == 3 {
-            return refused(held[2], at);
+        at += moved.used;
+        match moved.event {
+            Ok(Event::Go) => {}
+            Ok(Event::Chunk) => {}
+            Ok(Event::Message) => return handed(held, at),
+            Err(refusal) => return refused(refusal.number(), at),
         }
     }
     Answer::More { used: at }

@@ -1,48 +1,9 @@
 // One message by a decoder, its bytes in pieces.
-use in_place::{Answer, Message, TABLE_LENGTH};
-use test_calls::{Cut, Walk, Walked, make_sized, next_answer};
+use test_calls::{Cut, Decoder, Stop, Walk};
 
-fn wide(number: u32) -> u64 {
-    number as u64
-}
-
-// Tells that more is wanted, and nothing else yet.
-fn clear(report: &mut [u64; 8]) {
-    report[0] = 0;
-    report[1] = 0;
-    report[2] = 0;
-    report[3] = 0;
-    report[4] = 0;
-    report[5] = 0;
-}
-
-// Tells a message.
-fn tell_message(message: Message, report: &mut [u64; 8]) {
-    report[0] = 1;
-    report[2] = wide(message.type_id);
-    report[3] = wide(message.stream_id);
-    report[4] = wide(message.timestamp.value);
-    report[5] = wide(message.length);
-}
-
-// Tells kind (0 for more wanted, 1 for a message, 2 for a refusal), refusal, type, stream, time, length, bytes used and calls.
-fn tell(walked: Walked, report: &mut [u64; 8]) {
-    let walk = walked.walk;
-    let answer = walked.answer;
-    clear(report);
-    report[6] = walk.used as u64;
-    report[7] = walk.calls;
-    match answer {
-        Answer::Message { message, used: _ } => tell_message(message, report),
-        Answer::More { used: _ } => {}
-        Answer::Refused { number, used: _ } => {
-            report[0] = 2;
-            report[1] = wide(number);
-        }
-    }
-}
-
-// Decodes in pieces of `piece` bytes up to the first answer.
+// Decodes in pieces of `piece` bytes up to the first answer, and tells its kind (0 for more wanted, 1 for a message, 2 for a
+// refusal), the refusal, type, stream, time, length, bytes used and calls.
+// Kept: the C interface has numbers for the kinds, and 0 where there is no refusal.
 #[unsafe(no_mangle)]
 pub extern "C" fn large_decode(
     room: u32,
@@ -52,10 +13,23 @@ pub extern "C" fn large_decode(
     payload: &mut [u8],
     report: &mut [u64; 8],
 ) {
-    let mut held = [0u32; 24];
-    let mut rows = [0u32; TABLE_LENGTH];
-    make_sized(&mut held, &mut rows, room, size);
-    let start = Walk::new(Cut::even(piece));
-    let walked = next_answer(start, &mut held, &mut rows, input, payload);
-    tell(walked, report);
+    let mut decoder = Decoder::new(room);
+    let _ = decoder.set_max_chunk_size(size);
+    let mut walk = Walk::new(input, Cut::Even(piece));
+    let answer = walk.next_message(&mut decoder, payload);
+    let [kind, refusal, type_id, stream_id, time, length] = match answer {
+        Ok(Some(m)) => [1, 0, m.type_id, m.stream_id, m.timestamp.value, m.length],
+        Err(Stop::Refused(number)) => [2, number, 0, 0, 0, 0],
+        _ => [0; 6],
+    };
+    *report = [
+        u64::from(kind),
+        u64::from(refusal),
+        u64::from(type_id),
+        u64::from(stream_id),
+        u64::from(time),
+        u64::from(length),
+        walk.used as u64,
+        walk.calls,
+    ];
 }

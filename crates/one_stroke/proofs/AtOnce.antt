@@ -1,14 +1,6 @@
 -- A message of one chunk, all there, is its header read back and then one stretch of payload that ends it.
-use Prim.Native.Nat.{ℕ, ◌+◌, ◌-◌, ◌%◌, ◌≤◌, ◌<◌, min}
-use mathlib.Core.Path.{◌≡◌, refl, sym, ap, ◌∙◌}
-use mathlib.Core.Logic.{◌≢◌}
-use mathlib.Core.Bool.{Bool, true, false}
-use mathlib.Core.List.{List}
-use native.Mathlib.Omega.{arith}
-use lib.Dec.{eqb}
-use lib.ListN.{drop, get_or, length, take, length-drop, length-take, take-append-drop}
-use lib.Seq.{sets}
-use borrow.Author.Tests.{eq-eqb, le-ltb, ne_eqb}
+use Rattle.std.proofs.Common.{Some, ℕ, ◌+◌, ◌-◌, ◌%◌, ◌≤◌, ◌<◌, min, ◌≡◌, refl, sym, ap, ◌∙◌, ◌≢◌, Bool, true, false, List, arith, eqb, drop, get_or, length, take, length-drop, length-take, take-append-drop, eq-eqb, le-ltb, ne_eqb}
+use Rattle.std.proofs.lemmas.List.Edits.{sets}
 use Rattle.fields.specs.Endian.{Bytes}
 use Rattle.chunk_header.specs.declared.ChunkHeaderFormat.{ChunkHeaderFormat}
 use Rattle.chunk_header.specs.declared.ChunkHeaderFormat.TheVariants.{Full, TimeDeltaWithoutMessageStreamId, TimeDeltaOnly, Empty}
@@ -20,8 +12,7 @@ use Rattle.byte_machine.specs.Reader.{Reader, Csid, MessagePayload, Stepped, cur
 use Rattle.byte_machine.specs.Header.{opens}
 use Rattle.byte_machine.specs.Payload.{landed, paid}
 use Rattle.byte_machine.specs.Setting.{setting}
-use Rattle.byte_machine.specs.Rows.{put_at, row_at, row_or_empty, row_count}
-use Rattle.byte_machine.proofs.RowLaws.{in_table}
+use Rattle.byte_machine.specs.Rows.{put_at, row_at, row_count}
 use Rattle.decoding.specs.Call.{after, next, outcome, read, run}
 use Rattle.decoding.specs.Chunk.{carried}
 use Rattle.decoding.specs.Head.{Known, header_in, settled_by}
@@ -30,10 +21,11 @@ use Rattle.decoding.proofs.Heading.{known_runs}
 use Rattle.decoding.proofs.Runs.{bulk, holding, next_runs, then}
 use Rattle.held.specs.declared.numbers.HeldRow.{HeldRow}
 use Rattle.held.specs.Numbers.{decode, encode, held_in, held_row, held_row_of, numbers_of, reader_from, row_from}
+use Rattle.held.specs.declared.stage.Stage.TheVariants.{Csid as AtCsid}
 use Rattle.held.proofs.Stages.{is_csid}
 use Rattle.one_stroke.specs.declared.message.Seen.{Seen}
 use Rattle.one_stroke.specs.Lent.{Lent}
-use Rattle.one_stroke.specs.Quick.{Between, Fits, Whole, format_at, header_at, place_at, row_on, timed_at}
+use Rattle.one_stroke.specs.Quick.{Between, Fits, Once, Whole, format_at, header_at, place_at, row_on, timed_at}
 use Rattle.one_stroke.proofs.Strokes.{stroke}
 
 abbrev with_time : HeldRow → ℕ → HeldRow
@@ -42,13 +34,13 @@ with_time h time = held_row h.id time h.field h.length h.kind h.stream
 -- what the tests saw is the chunk that the input begins with
 pub sees : (held rows input : List ℕ) (f : ChunkHeaderFormat) (start place time : ℕ) (row header : HeldRow)
     → f ≡ format_at input → start ≡ 1 + header_length (type_of f) → 2 ≤ get_or input 0 0 % 64 → start ≤ length input
-    → place ≡ place_at rows input → place < row_count → row ≡ held_row_of (row_or_empty rows place)
+    → place ≡ place_at rows input → place < row_count → row ≡ held_row_of (row_at rows place)
     → header ≡ held_row_of (carried (header_in f input) (row_from row))
     → Fits header.field header.length (get_or held 0 0) (get_or held 1 0) (length input - start)
     → time ≡ first_time f row.time header.field
     → Whole (record { start = start; format = f; place = place; before = row; header = with_time header time }) held rows input
 sees held rows input f start place time row header f-is start_is id long place_is found row_is header_is fits time_is =
-    let r : row ≡ held_row_of (row_on rows input) = row_is ∙ ap (λ (x : Row). held_row_of x) (in_table rows place found ∙ ap (λ (p : ℕ). row_at rows p) place_is) in
+    let r : row ≡ held_row_of (row_on rows input) = row_is ∙ ap (λ (p : ℕ). held_row_of (row_at rows p)) place_is in
     let h : header ≡ held_row_of (header_at rows input) =
     header_is
     ∙ ap (λ (x : HeldRow). held_row_of (carried (header_in f input) (row_from x))) r
@@ -170,7 +162,7 @@ module _ (held rows input payload : List ℕ) (bytes : Bytes input) (b : Between
 
   -- what is stored stands for it
   module _ (held' rows' payload' : List ℕ) (end : ℕ) where
-    pub once_taken : held' ≡ numbers_of (record { room = get_or held 0 0; size = get_or held 1 0; closed = 0; stage = 0; number = 0; lacks = 0; format = s.format; place = s.place; left = 0; id = 0; got = 0; before = s.before; header = s.header })
+    pub once_taken : held' ≡ numbers_of (record { room = get_or held 0 0; size = get_or held 1 0; closed = 0; stage = AtCsid; format = s.format; place = s.place; left = 0; id = 0; got = 0; before = s.before; header = s.header })
         → rows' ≡ put_at rows s.place (row_from s.header)
         → payload' ≡ sets payload 0 sent
         → end ≡ start + long
@@ -184,3 +176,16 @@ module _ (held rows input payload : List ℕ) (bytes : Bytes input) (b : Between
         numbers
         (t ∙ (rw (w.place_is, w.header_is)))
         (omega arith))
+
+    -- .. and so a message is taken, and not none
+    pub once_some : held' ≡ numbers_of (record { room = get_or held 0 0; size = get_or held 1 0; closed = 0; stage = AtCsid; format = s.format; place = s.place; left = 0; id = 0; got = 0; before = s.before; header = s.header })
+        → rows' ≡ put_at rows s.place (row_from s.header)
+        → payload' ≡ sets payload 0 sent
+        → end ≡ start + long
+        → Once (Some end) held rows input payload held' rows' payload'
+    once_some k t p e = record {
+      taken = λ n q. let same : end ≡ n = cc in rw (← same) (once_taken k t p e);
+      numbers = λ q. absurd cc;
+      table = λ q. absurd cc;
+      buffer = λ q. absurd cc;
+    }

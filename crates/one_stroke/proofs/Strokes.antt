@@ -1,16 +1,12 @@
 -- A path in front of the loop is the call's own answer: what it stores stands for the definition's decoder after it.
-use Prim.Native.Nat.{ℕ, ◌+◌, ◌-◌, ◌<◌}
-use mathlib.Core.Path.{◌≡◌, refl, sym, ap, ◌∙◌}
-use mathlib.Core.List.{List}
-use lib.ListN.{length}
+use Rattle.std.proofs.Common.{[], get_or, ℕ, ◌<◌, ◌≡◌, refl, sym, ap, ◌∙◌, List, length}
 use Rattle.fields.specs.Output.{stored}
-use Rattle.byte_machine.specs.Payload.{paid}
 use Rattle.decoding.specs.Answer.{Listed, more}
 use Rattle.decoding.specs.Call.{Outcome, next, outcome}
 use Rattle.decoding.specs.Within.{Lies, nearer}
 use Rattle.decoding.specs.Decoder.{Decoder}
 use Rattle.decoding.proofs.PieceWithin.{next_within}
-use Rattle.held.specs.Numbers.{decode, encode, held_in, held_of, numbers_of, reader_from, setting_in}
+use Rattle.held.specs.Numbers.{decode, encode, held_in}
 use Rattle.held.proofs.Again.{decode_encode, third, from_small}
 use Rattle.one_stroke.specs.Lent.{Lent}
 
@@ -28,7 +24,7 @@ stroke o answer d held rows payload e k t small = record {
 
 -- a piece within a payload
 pub piece_taken : (held rows input payload held' payload' : List ℕ) → Lies (decode held rows) (length input) (length payload)
-    → (let h = held_in held in held' ≡ numbers_of (held_of (setting_in h) h.closed (paid (reader_from h) (h.got + length input) (h.left - length input))))
+    → held' ≡ encode (nearer (decode held []) (length input))
     → payload' ≡ stored payload (held_in held).got input
     → Lent (more (length input)) held' rows payload' (next (decode held rows) input payload)
 piece_taken held rows input payload held' payload' w k b =
@@ -36,7 +32,7 @@ piece_taken held rows input payload held' payload' w k b =
     (next_within (decode held rows) input payload w ∙ (rw (← b)))
     k
     refl
-    (from_small (held_in held).stage (held_in held).number (held_in held).lacks)
+    (from_small (get_or held 3 0) (get_or held 4 0) (get_or held 5 0))
 
 -- a path that has changed nothing leaves the call to the next
 pub after_none : (answer : Listed) (held' rows' payload' held₁ rows₁ payload₁ held rows input payload : List ℕ) → held₁ ≡ held → rows₁ ≡ rows → payload₁ ≡ payload

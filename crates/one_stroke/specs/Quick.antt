@@ -1,7 +1,6 @@
 -- What the paths in front of the loop ensure: the call's own answer in one stroke, or nothing changed.
-use Rattle.std.specs.Prelude.{ℕ, ◌+◌, ◌-◌, ◌%◌, ◌≤◌, ◌<◌, Bool, true, false, List, ◌≢◌, ◌≡◌, get_or, length}
+use Rattle.std.specs.Prelude.{ℕ, ◌+◌, ◌-◌, ◌%◌, ◌≤◌, ◌<◌, Bool, true, false, List, ◌≢◌, ◌≡◌, get_or, length, Option, Some, None}
 use Rattle.chunk_header.specs.declared.ChunkHeaderFormat.{ChunkHeaderFormat}
-use Rattle.chunk_header.specs.declared.ChunkHeaderFormat.TheVariants.{Full}
 use Rattle.chunk_header.specs.Limits.{max_field}
 use Rattle.chunk_header.specs.Table.{format_of, header_length, type_of}
 use Rattle.chunk_meaning.specs.Stored.{Row, timed}
@@ -13,7 +12,7 @@ use Rattle.decoding.specs.Chunk.{carried}
 use Rattle.decoding.specs.Head.{header_in}
 use Rattle.decoding.specs.Within.{Lies}
 use Rattle.held.specs.declared.numbers.HeldRow.{HeldRow}
-use Rattle.held.specs.Numbers.{decode, held_in, held_row, held_row_of, reader_from}
+use Rattle.held.specs.Numbers.{decode, held_in, held_row_of, reader_from}
 use Rattle.one_stroke.specs.declared.message.Seen.{Seen}
 use Rattle.one_stroke.specs.Lent.{Lent}
 
@@ -31,12 +30,12 @@ pub record Piece (done : Bool) (held input payload held' payload' : List ℕ) : 
   pub numbers : done ≡ false → held' ≡ held
   pub buffer : done ≡ false → payload' ≡ payload
 
--- a message taken in one stroke; 0: none
-pub record Once (used : ℕ) (held rows input payload held' rows' payload' : List ℕ) : Type 0 where
-  pub taken : used ≢ 0 → Lent (read (reader_from (held_in held')) used) held' rows' payload' (next (decode held rows) input payload)
-  pub numbers : used ≡ 0 → held' ≡ held
-  pub table : used ≡ 0 → rows' ≡ rows
-  pub buffer : used ≡ 0 → payload' ≡ payload
+-- a message taken in one stroke, or none
+pub record Once (used : Option ℕ) (held rows input payload held' rows' payload' : List ℕ) : Type 0 where
+  pub taken : (n : ℕ) → used ≡ Some n → Lent (read (reader_from (held_in held')) n) held' rows' payload' (next (decode held rows) input payload)
+  pub numbers : used ≡ None → held' ≡ held
+  pub table : used ≡ None → rows' ≡ rows
+  pub buffer : used ≡ None → payload' ≡ payload
 
 -- an open decoder between messages, some input, and a buffer that is long enough
 pub record Between (held : List ℕ) (length lent : ℕ) : Type 0 where
@@ -87,9 +86,3 @@ pub record Whole (s : Seen) (held rows input : List ℕ) : Type 0 where
   pub before_is : s.before ≡ held_row_of (row_on rows input)
   pub header_is : s.header ≡ held_row_of (timed_at rows input)
   pub fits : Fits (header_at rows input).timestamp_field (header_at rows input).message_length (get_or held 0 0) (get_or held 1 0) (length input - s.start)
-
-abbrev pub Sees : Seen → (held rows input : List ℕ) → Type 0
-Sees s held rows input = s.start ≢ 0 → Whole s held rows input
-
-abbrev pub unseen : Seen
-unseen = record { start = 0; format = Full; place = 0; before = held_row 0 0 0 0 0 0; header = held_row 0 0 0 0 0 0 }

@@ -1,54 +1,41 @@
 // A piece that is a part of the payload of the chunk at hand, and ends before it.
-ghost use Rattle.std.specs.Prelude.{◌≡◌, ◌+◌, ◌-◌, ◌≤◌};
+ghost use Rattle.std.specs.Prelude.{◌≡◌, [], ◌+◌, ◌≤◌};
 ghost use Rattle.fields.specs.Output.{stored};
-ghost use Rattle.byte_machine.specs.Payload.{paid};
-ghost use Rattle.held.specs.Numbers.{held_of, reader_from, setting_in};
+ghost use Rattle.decoding.specs.Within.{nearer};
+ghost use Rattle.held.specs.Numbers.{meant};
 ghost use Rattle.one_stroke.specs.Quick.{Outside, Piece};
 
 use fields::put_bytes;
-use held::{Held, held_in, numbers_of, wide};
+use held::{Held, held_in, numbers_of, places};
 
 // Whether a piece of so many bytes is none; `lent` is what the buffer has.
 fn lies_outside(held: &[u32; 24], length: usize, lent: usize) -> bool
     ensures { Outside result held.now length lent }
 {
-    let room = held[0];
-    let left = held[8];
-    if held[2] != 0 {
+    let room = held[places::ROOM];
+    let left = held[places::LEFT];
+    if held[places::CLOSED] != 0
+        || held[places::STAGE] < 8
+        || lent < room as usize
+        || room < left
+        || room - left < held[places::GOT]
+        || length == 0
+    {
         return true;
     }
-    if held[3] < 8 {
-        return true;
-    }
-    if lent < wide(room) {
-        return true;
-    }
-    if room < left {
-        return true;
-    }
-    if room - left < held[10] {
-        return true;
-    }
-    if length == 0 {
-        return true;
-    }
-    wide(left) <= length
+    left as usize <= length
 }
 
 // After n bytes of payload that do not end their chunk.
 fn nearer(h: Held, n: u32) -> Held
-    requires { (8 ≤ h.stage) × ((n ≤ h.left) × (h.got + h.left ≤ 0xffff_ffff)) }
-    ensures { result ≡ held_of (setting_in h) h.closed (paid (reader_from h) (h.got + n) (h.left - n)) }
+    requires { (n ≤ h.left) × (h.got + h.left ≤ 0xffff_ffff) }
+    ensures { meant result [] ≡ nearer (meant h []) n }
 {
-    let got = h.got + n;
-    let left = h.left - n;
-    let mut next = h;
-    next.stage = 8;
-    next.number = 0;
-    next.lacks = 0;
-    next.got = got;
-    next.left = left;
-    next
+    Held {
+        got: h.got + n,
+        left: h.left - n,
+        ..h
+    }
 }
 
 // Puts the bytes from `at` on; most pieces are long, or one byte.
@@ -73,8 +60,7 @@ pub fn within(held: &mut [u32; 24], input: &[u8], payload: &mut [u8]) -> bool
         return false;
     }
     let h = held_in(held);
-    let numbers = numbers_of(nearer(h, input.len() as u32));
-    *held = numbers;
-    put_piece(input, payload, wide(h.got));
+    *held = numbers_of(nearer(h, input.len() as u32));
+    put_piece(input, payload, h.got as usize);
     true
 }

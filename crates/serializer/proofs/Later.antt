@@ -1,14 +1,6 @@
 -- The chunks of a payload, taken one by one; the first may have a format of its own.
-use Prim.Native.Nat.{ℕ, ◌+◌, ◌-◌, ◌≤◌, ◌<◌, min}
-use mathlib.Core.Path.{◌≡◌, refl, sym, ap, ◌∙◌}
-use mathlib.Core.Bool.{Bool, true, false}
-use mathlib.Core.List.{List, [], ◌∷◌, ◌++◌, map, append-nil}
-use native.Mathlib.Nat.{add-sub_cancel_left}
-use native.Mathlib.Omega.{arith}
-use lib.Dec.{ltb}
-use lib.ListN.{length, take, drop, length-drop, drop_of_length-le}
-use lib.Seq.{take_all, drop-drop}
-use borrow.Author.Tests.{ltb-true, ltb-false}
+use Rattle.std.proofs.Common.{ℕ, ◌≤◌, ◌<◌, min, ◌≡◌, refl, sym, ◌∙◌, Bool, true, false, List, [], ◌∷◌, ◌++◌, map, append-nil, arith, ltb, length, take, drop, drop_of_length-le, take_all, ltb-true, ltb-false}
+use Rattle.std.proofs.Math.Seq.{take-append_seam, drop-append_seam}
 use Rattle.chunk_header.specs.declared.ChunkHeader.{ChunkHeader}
 use Rattle.chunk_header.specs.declared.ChunkHeaderFormat.{ChunkHeaderFormat}
 use Rattle.chunk_header.specs.Layout.{chunk_bytes}
@@ -50,17 +42,14 @@ chunked_step : (f g : ChunkHeaderFormat) (h : ChunkHeader) (size : ℕ) (payload
     → chunked f g h size payload ≡ chunk_bytes (chunk f h (take size payload)) ++ chunked g g h size (drop size payload)
 chunked_step f g h size payload p q = rw (pieces_step size payload p q, chunked_same g h (pieces size (drop size payload)))
 
--- one turn: a piece from a place on, and what is left after it
-pub chunked_piece : (f g : ChunkHeaderFormat) (h : ChunkHeader) (size : ℕ) (payload : List ℕ) (from n : ℕ) → 0 < size → from < length payload
-    → n ≡ min size (length payload - from)
-    → chunked f g h size (drop from payload) ≡ chunk_bytes (chunk f h (take (from + n - from) (drop from payload))) ++ chunked g g h size (drop (from + n) payload)
-chunked_piece f g h size payload from n p q e =
-    let xs = drop from payload in
-    let some : 0 < length xs = rw length-drop (omega arith) in
-    let k : n ≡ min size (length xs) = rw length-drop e in
-    let piece : take n xs ≡ take size xs = ap (λ (m : ℕ). take m xs) k ∙ (cut_least size xs).0 in
-    let rest : drop (from + n) payload ≡ drop size xs = sym (drop-drop n from payload) ∙ ap (λ (m : ℕ). drop m xs) k ∙ (cut_least size xs).1 in
-    chunked_step f g h size xs p some ∙ rw (add-sub_cancel_left from n, piece, rest)
+-- one turn: a piece off the front, and what is left after it
+pub chunked_piece : (f g : ChunkHeaderFormat) (h : ChunkHeader) (size : ℕ) (xs piece left : List ℕ) → 0 < size → 0 < length xs
+    → xs ≡ piece ++ left → length piece ≡ min size (length xs)
+    → chunked f g h size xs ≡ chunk_bytes (chunk f h piece) ++ chunked g g h size left
+chunked_piece f g h size xs piece left p q e n =
+    let front : take size xs ≡ piece = sym (cut_least size xs).0 ∙ rw (← n, e) (take-append_seam piece left) in
+    let back : drop size xs ≡ left = sym (cut_least size xs).1 ∙ rw (← n, e) (drop-append_seam piece left) in
+    chunked_step f g h size xs p q ∙ rw (front, back)
 
 -- a payload that fits one chunk
 pub chunked_one : (f g : ChunkHeaderFormat) (h : ChunkHeader) (size : ℕ) (payload : List ℕ) → 0 < size → 0 < length payload → length payload ≤ size

@@ -1,11 +1,6 @@
 -- What later crates lean on: what is left after a refusal and after a droppable message.
-use Prim.Native.Nat.{ℕ}
-use mathlib.Core.Path.{◌≡◌, ap}
-use mathlib.Core.Bool.{Bool, true, false, cond, or-true}
-use mathlib.Core.List.{List}
-use native.Mathlib.Omega.{arith}
-use lib.Dec.{ltb, eqb}
-use lib.ListN.{length}
+use Rattle.std.proofs.Common.{ℕ, ◌≡◌, ap, Bool, true, false, cond, List, arith, ltb, eqb, length}
+use Rattle.std.proofs.Math.Bool.{or-true}
 use Rattle.chunk_header.specs.declared.ChunkHeader.{ChunkHeader}
 use Rattle.chunk_header.specs.declared.ChunkHeaderFormat.TheVariants.{Full}
 use Rattle.serializer.specs.declared.ChunkSerializer.{ChunkSerializer}

@@ -1,3 +1,4 @@
+pub mod Added
 pub mod Bounds
 pub mod Chunk
 pub mod Later

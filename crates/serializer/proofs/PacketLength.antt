@@ -1,10 +1,7 @@
 -- How long a packet is: a head for each chunk, and the payload once.
-use Prim.Native.Nat.{ℕ, zero, suc, ◌+◌, ◌-◌, ◌*◌, ◌/◌, ◌≤◌, ◌<◌}
-use mathlib.Core.Path.{◌≡◌}
-use mathlib.Core.List.{List, [], map}
-use native.Mathlib.Nat.{suc-mul, zero-mul}
-use native.Mathlib.Omega.{arith}
-use lib.ListN.{length, take, drop, length-append, length-take, length-drop}
+use Rattle.std.proofs.Common.{ℕ, zero, suc, ◌+◌, ◌-◌, ◌*◌, ◌/◌, ◌≤◌, ◌<◌, ◌≡◌, List, [], map, suc-mul, zero-mul, arith, length, take, drop, length-append, length-take, length-drop}
+use Rattle.std.proofs.Math.Nat.{mul-le-mul, div-le_self}
+use Rattle.chunk_header.specs.Limits.{max_length}
 use Rattle.chunk_header.specs.declared.ChunkHeader.{ChunkHeader}
 use Rattle.chunk_header.specs.declared.ChunkHeaderFormat.{ChunkHeaderFormat}
 use Rattle.chunk_header.specs.Layout.{chunk_bytes}
@@ -36,3 +33,9 @@ length_packet f g h size payload p q =
     let most : length (drop size payload) ≤ n * size = rw length-drop (omega (arith, suc-mul n size)) in
     rw (rounded_up_lem (length payload) size q p, length-append, length_chunk f h (take size payload), length_later g h n size (drop size payload) most)
     (simp (length-take, length-drop) (omega arith))
+
+-- the heads of the later chunks, of which there are no more than bytes
+pub heads : (n size one : ℕ) → n ≤ max_length → one ≤ 16 → (n - 1) / size * one ≤ max_length * 16
+heads n size one few e =
+    let less : (n - 1) / size ≤ max_length = omega (arith, div-le_self (n - 1) size) in
+    mul-le-mul {m₂ = 16} less e

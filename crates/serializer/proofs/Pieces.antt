@@ -1,14 +1,6 @@
 -- A payload in pieces: how many there are, what each step takes off, and how long the chunks of all of them are.
-use Prim.Native.Nat.{ℕ, suc, ◌+◌, ◌-◌, ◌*◌, ◌/◌, ◌≤◌, ◌<◌}
-use mathlib.Core.Path.{◌≡◌, refl}
-use mathlib.Core.List.{List, [], ◌∷◌}
-use native.Mathlib.Nat.{add-div_right, lt-div-mul-add, suc-mul, div-eq_of_lt}
-use native.Mathlib.Omega.{arith}
-use native.Mathlib.Numerals.{add-one}
-use mathlib.Core.Bool.{Bool, true, false}
-use lib.Dec.{ltb}
-use borrow.Author.Tests.{ltb-true, ltb-false}
-use lib.ListN.{length, take, drop, length-drop}
+use Rattle.std.proofs.Common.{ℕ, suc, ◌+◌, ◌-◌, ◌*◌, ◌/◌, ◌≤◌, ◌<◌, ◌≡◌, refl, List, [], ◌∷◌, suc-mul, arith, add-one, Bool, true, false, ltb, ltb-true, ltb-false, length, take, drop, length-drop}
+use Rattle.std.proofs.Math.Nat.{add-div_right, lt-div-mul-add, div-eq_of_lt}
 use Rattle.serializer.specs.Packet.{rounded_up, pieces}
 
 -- one, and one more for each whole chunk size in what lies before the last byte

@@ -1,7 +1,5 @@
 -- A message goes on one of the chunk streams 2 to 6.
-use Prim.Native.Nat.{ℕ, ◌≤◌}
-use mathlib.Core.Bool.{Bool, true, false, ◌&&◌, ◌||◌, cond}
-use lib.Dec.{leb, eqb, lit≤}
+use Rattle.std.proofs.Common.{ℕ, ◌≤◌, Bool, true, false, ◌&&◌, ◌||◌, cond, leb, eqb, lit≤}
 use Rattle.serializer.specs.Message.{chunk_stream}
 
 pub stream_range : (type : ℕ) → (2 ≤ chunk_stream type) × (chunk_stream type ≤ 6)

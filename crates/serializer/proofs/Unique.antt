@@ -1,12 +1,7 @@
 -- The answer, the encoder and the output of a call decide what it hands back, since that can be told from them.
-use Prim.Native.Nat.{ℕ}
-use mathlib.Core.Path.{◌≡◌, refl, ap}
-use mathlib.Core.Bool.{cond}
-use mathlib.Core.List.{List}
-use lib.Dec.{eqb}
+use Rattle.std.proofs.Common.{ℕ, ◌≡◌, refl, ap, cond, List, eqb, Result, Ok, Err}
 use Rattle.fields.specs.Deciding.{Decides}
 use Rattle.fields.proofs.Deciding.{told_decides}
-use Rattle.std.specs.Prelude.{Result, Ok, Err}
 use Rattle.serializer.specs.declared.error.PacketError.{PacketError}
 use Rattle.serializer.specs.declared.error.PacketError.TheVariants.{NoPayload, MessageTooLong, ChunkSizeZero, InvalidMaxChunkSize, OutputTooShort}
 use Rattle.serializer.specs.declared.Serialized.{Serialized}

@@ -1,7 +1,9 @@
 pub mod Answer
+pub mod Cursor
 pub mod Header
 pub mod Message
 pub mod Packet
+pub mod Plan
 pub mod Remembered
 pub mod Serialize
 -- how long a packet is, and how many chunks

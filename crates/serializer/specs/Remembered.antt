@@ -5,10 +5,9 @@ use Rattle.chunk_header.specs.Header.{nothing}
 use Rattle.chunk_header.specs.Limits.{initial_size}
 use Rattle.serializer.specs.declared.ChunkSerializer.{ChunkSerializer}
 use Rattle.serializer.specs.declared.format.Message.{Message}
-use Rattle.serializer.specs.declared.plan.Plan.{Plan}
-use Rattle.serializer.specs.Header.{header, first_chunk}
+use Rattle.serializer.specs.Header.{header}
 use Rattle.serializer.specs.Message.{chunk_stream}
-use Rattle.serializer.specs.Packet.{later_format, packet}
+use Rattle.serializer.specs.Packet.{packet}
 
 -- a fresh encoder: nothing remembered
 abbrev pub fresh : ChunkSerializer
@@ -28,10 +27,6 @@ remember s m size = record { previous_headers = set s.previous_headers (row_of m
 -- the chunk size in force, which no call makes 0
 abbrev pub size_of : ChunkSerializer → ℕ
 size_of s = max 1 s.max_chunk_size
-
--- what is decided of a packet before its first byte
-abbrev pub planned : Message → (previous : ChunkHeader) → (size : ℕ) → Plan
-planned m previous size = record { first = first_chunk m previous; later = later_format m.force_uncompressed; size = max 1 size }
 
 abbrev pub packet_of : ChunkSerializer → Message → (payload : List ℕ) → List ℕ
 packet_of s m payload = packet (size_of s) m payload (previous s m)

@@ -1,5 +1,5 @@
 -- What the encoder's calls answer and leave (document 01, "Encoder", refusals 1 to 5 and their order).
-use Rattle.std.specs.Prelude.{ℕ, true, false, List, [], ◌∷◌, ltb, eqb, length}
+use Rattle.std.specs.Prelude.{ℕ, Result, true, false, List, [], ◌∷◌, ltb, eqb, length}
 use Rattle.fields.specs.Cases.{◌when◌, first}
 use Rattle.fields.specs.Output.{over}
 use Rattle.chunk_header.specs.Limits.{max_length, max_size}
@@ -7,6 +7,7 @@ use Rattle.protocol_control.specs.declared.ProtocolControl.TheVariants.{SetChunk
 use Rattle.protocol_control.specs.Body.{body}
 use Rattle.serializer.specs.declared.ChunkSerializer.{ChunkSerializer}
 use Rattle.serializer.specs.declared.Serialized.{Serialized}
+use Rattle.serializer.specs.declared.error.PacketError.{PacketError}
 use Rattle.serializer.specs.declared.format.Message.{Message}
 use Rattle.serializer.specs.Answer.{Answer, wrote, refused, answer_of}
 use Rattle.serializer.specs.Message.{message}
@@ -18,8 +19,11 @@ pub record Outcome : Type 0 where
   pub serializer : ChunkSerializer
   pub output : List ℕ
 
+abbrev pub outcome : (packet : Result ℕ PacketError) → ChunkSerializer → (output : List ℕ) → Outcome
+outcome packet s output = record { answer = answer_of packet; serializer = s; output = output }
+
 abbrev pub outcome_of : Serialized → (output : List ℕ) → Outcome
-outcome_of r output = record { answer = answer_of r.packet; serializer = r.serializer; output = output }
+outcome_of r output = outcome r.packet r.serializer output
 
 -- a refusal leaves all as before
 abbrev pub refuse : ChunkSerializer → (output : List ℕ) → (number : ℕ) → Outcome

@@ -1,7 +1,7 @@
 // Which chunk stream, which format and which time field the first chunk of a message has.
-ghost use Rattle.std.specs.Prelude.{◌≡◌, ◌-◌};
+ghost use Rattle.std.specs.Prelude.{◌≡◌, ◌-◌, ◌<◌};
 ghost use Rattle.serializer.specs.Header.{first_chunk, time_field};
-ghost use Rattle.serializer.specs.Header.{delta as Header·delta, format as Header·format};
+ghost use Rattle.serializer.specs.Header.{delta as delta_of, format as format_of};
 ghost use Rattle.serializer.specs.Packet.{later_format};
 ghost use Rattle.serializer.specs.Message.{chunk_stream};
 
@@ -26,33 +26,24 @@ pub struct FirstChunk {
     pub header: ChunkHeader,
 }
 
+#[tactic(auto, unfolding(crate::specs::Message::chunk_stream))]
 fn get_csid_for_message_type(type_id: u8) -> u32
     ensures { result ≡ chunk_stream type_id }
 {
-    if type_id < 1 {
-        return 6;
+    match type_id {
+        1..=6 => 2,
+        18 | 19 => 3,
+        9 => 4,
+        8 => 5,
+        _ => 6,
     }
-    if type_id <= 6 {
-        return 2;
-    }
-    if type_id == 18 {
-        return 3;
-    }
-    if type_id == 19 {
-        return 3;
-    }
-    if type_id == 9 {
-        return 4;
-    }
-    if type_id == 8 {
-        return 5;
-    }
-    6
 }
 
 // Rows 0 to 4 are those of chunk streams 2 to 6.
+#[tactic(auto, using(crate::proofs::Stream::stream_range))]
 pub fn row_of(type_id: u8) -> usize
-    ensures { result ≡ chunk_stream type_id - 2 }
+    ensures row { result ≡ chunk_stream type_id - 2 }
+    ensures within { result < 5 }
 {
     (get_csid_for_message_type(type_id) - 2) as usize
 }
@@ -62,44 +53,40 @@ pub fn later_format(force_uncompressed: bool) -> ChunkHeaderFormat
     ensures { result ≡ later_format force_uncompressed }
 {
     if force_uncompressed {
-        return ChunkHeaderFormat::Full;
+        ChunkHeaderFormat::Full
+    } else {
+        ChunkHeaderFormat::Empty
     }
-    ChunkHeaderFormat::Empty
+}
+
+// The wrapped difference to the remembered timestamp.
+#[tactic(auto, unfolding(crate::specs::Header::delta))]
+fn delta(message: Message, previous: ChunkHeader) -> u32
+    ensures { result ≡ delta_of message previous }
+{
+    message.timestamp.subtract(previous.timestamp).value
 }
 
 // The five rules, in their order.
 #[tactic(auto, unfolding(crate::specs::Header::format))]
-fn get_header_format(
-    message: Message,
-    csid: u32,
-    delta: u32,
-    previous: ChunkHeader,
-) -> ChunkHeaderFormat
-    requires { (csid ≡ chunk_stream message.type_id) × (delta ≡ Header·delta message previous) }
-    ensures { result ≡ Header·format message previous }
+fn get_header_format(message: Message, previous: ChunkHeader) -> ChunkHeaderFormat
+    ensures { result ≡ format_of message previous }
 {
-    if message.force_uncompressed {
-        return ChunkHeaderFormat::Full;
+    if message.force_uncompressed
+        || previous.chunk_stream_id != get_csid_for_message_type(message.type_id)
+        || previous.can_be_dropped
+        || message.stream_id != previous.message_stream_id
+    {
+        ChunkHeaderFormat::Full
+    } else if message.type_id != previous.message_type_id
+        || message.length != previous.message_length
+    {
+        ChunkHeaderFormat::TimeDeltaWithoutMessageStreamId
+    } else if delta(message, previous) != previous.timestamp_field {
+        ChunkHeaderFormat::TimeDeltaOnly
+    } else {
+        ChunkHeaderFormat::Empty
     }
-    if previous.chunk_stream_id != csid {
-        return ChunkHeaderFormat::Full;
-    }
-    if previous.can_be_dropped {
-        return ChunkHeaderFormat::Full;
-    }
-    if message.stream_id != previous.message_stream_id {
-        return ChunkHeaderFormat::Full;
-    }
-    if message.type_id != previous.message_type_id {
-        return ChunkHeaderFormat::TimeDeltaWithoutMessageStreamId;
-    }
-    if message.length != previous.message_length {
-        return ChunkHeaderFormat::TimeDeltaWithoutMessageStreamId;
-    }
-    if delta != previous.timestamp_field {
-        return ChunkHeaderFormat::TimeDeltaOnly;
-    }
-    ChunkHeaderFormat::Empty
 }
 
 // The time field: the absolute time in type 0, else the delta.
@@ -108,9 +95,7 @@ fn time_field(format: ChunkHeaderFormat, time: u32, delta: u32) -> u32
 {
     match format {
         ChunkHeaderFormat::Full => time,
-        ChunkHeaderFormat::TimeDeltaWithoutMessageStreamId => delta,
-        ChunkHeaderFormat::TimeDeltaOnly => delta,
-        ChunkHeaderFormat::Empty => delta,
+        _ => delta,
     }
 }
 
@@ -118,21 +103,15 @@ fn time_field(format: ChunkHeaderFormat, time: u32, delta: u32) -> u32
 pub fn first_chunk(message: Message, previous: ChunkHeader) -> FirstChunk
     ensures { result ≡ first_chunk message previous }
 {
-    let delta = message.timestamp.subtract(previous.timestamp).value;
-    let csid = get_csid_for_message_type(message.type_id);
-    let format = get_header_format(message, csid, delta, previous);
-    let field = time_field(format, message.timestamp.value, delta);
-    let timestamp = message.timestamp;
-    FirstChunk {
-        format: format,
-        header: ChunkHeader {
-            chunk_stream_id: csid,
-            timestamp: timestamp,
-            timestamp_field: field,
-            message_length: message.length,
-            message_type_id: message.type_id,
-            message_stream_id: message.stream_id,
-            can_be_dropped: message.can_be_dropped,
-        },
-    }
+    let format = get_header_format(message, previous);
+    let header = ChunkHeader {
+        chunk_stream_id: get_csid_for_message_type(message.type_id),
+        timestamp: message.timestamp,
+        timestamp_field: time_field(format, message.timestamp.value, delta(message, previous)),
+        message_length: message.length,
+        message_type_id: message.type_id,
+        message_stream_id: message.stream_id,
+        can_be_dropped: message.can_be_dropped,
+    };
+    FirstChunk { format, header }
 }

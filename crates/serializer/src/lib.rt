@@ -1,13 +1,16 @@
 // The encoder: messages in, chunks out (chunk_io/serializer.rs of rml_rtmp).
 #![tactic(auto)]
 
-ghost use Rattle.std.specs.Prelude.{◌≡◌, length, ◌<◌, ◌≤◌};
+ghost use Rattle.std.specs.Prelude.{◌≡◌, ◌<◌, ◌≤◌, ◌⊎◌, length, MatchResult};
 ghost use Rattle.serializer.specs.Answer.{answer_of};
-ghost use Rattle.serializer.specs.Message.{message as Message·message};
-ghost use Rattle.serializer.specs.Remembered.{fresh, planned, previous};
-ghost use Rattle.serializer.specs.Serialize.{needed, outcome_of, sent, serialized, size_changed};
+ghost use Rattle.serializer.specs.Header.{first_chunk};
+ghost use Rattle.serializer.specs.Message.{message as message_of};
+ghost use Rattle.serializer.specs.Plan.{bytes_of};
+ghost use Rattle.serializer.specs.Remembered.{fresh, packet_of, previous};
+ghost use Rattle.serializer.specs.Serialize.{needed, outcome_of, sent, serialized, size_changed, outcome};
 ghost use Rattle.chunk_header.specs.Limits.{max_length};
 
+mod cursor;
 mod error;
 mod format;
 mod length;
@@ -16,10 +19,8 @@ mod write;
 
 pub use crate::error::PacketError;
 use crate::format::{Message, row_of};
-use crate::plan::{Plan, bytes_needed, plan_packet};
-use crate::write::write_packet;
+use crate::plan::Plan;
 use chunk_header::{ChunkHeader, INITIAL_MAX_CHUNK_SIZE, LARGEST_CHUNK_SIZE};
-use fields::put_number;
 use time::RtmpTimestamp;
 
 const MAX_MESSAGE_LENGTH: usize = 16777215;
@@ -41,75 +42,15 @@ pub struct Serialized {
     pub packet: Result<usize, PacketError>,
 }
 
-// The message of a call.
-fn message(
-    type_id: u8,
-    stream_id: u32,
-    timestamp: RtmpTimestamp,
-    length: u32,
-    force_uncompressed: bool,
-    can_be_dropped: bool,
-) -> Message
-    ensures { result ≡ Message·message type_id stream_id timestamp.value length force_uncompressed can_be_dropped }
+// The length of a payload that a message may have.
+fn payload_length(payload: &[u8]) -> Result<u32, PacketError>
+    ensures { MatchResult result (λ n. (n ≡ length payload.now) × (0 < n) × (n ≤ max_length))
+        (λ e. ((e ≡ PacketError.NoPayload) × (length payload.now ≡ 0)) ⊎ ((e ≡ PacketError.MessageTooLong) × (max_length < length payload.now))) }
 {
-    Message {
-        type_id: type_id,
-        stream_id: stream_id,
-        timestamp: timestamp,
-        length: length,
-        force_uncompressed: force_uncompressed,
-        can_be_dropped: can_be_dropped,
-    }
-}
-
-// A refusal leaves all as before.
-fn refuse(serializer: ChunkSerializer, error: PacketError) -> Serialized
-    ensures { (result.serializer ≡ serializer) × (result.packet ≡ Err error) }
-{
-    Serialized {
-        serializer,
-        packet: Err(error),
-    }
-}
-
-// The plan of a message, after what is remembered of its stream.
-fn plan_for(serializer: ChunkSerializer, message: Message) -> Plan
-    ensures { result ≡ planned message (previous serializer message) serializer.max_chunk_size }
-{
-    let row = row_of(message.type_id);
-    let previous = serializer.previous_headers[row];
-    plan_packet(message, previous, serializer.max_chunk_size)
-}
-
-// Sends a message whose payload has a length that is allowed; from then on chunks have `size_after`.
-#[tactic(auto, unfolding(crate::specs::Serialize::sent, crate::specs::Packet::packet))]
-fn send(
-    serializer: ChunkSerializer,
-    message: Message,
-    payload: &[u8],
-    size_after: u32,
-    output: &mut [u8],
-) -> Serialized
-    requires { (0 < length payload.now) × (length payload.now ≤ max_length) }
-    ensures { outcome_of result output.new ≡ sent serializer message payload.now size_after output.old }
-{
-    let plan = plan_for(serializer, message);
-    let needed = bytes_needed(plan, payload);
-    if output.len() < needed {
-        return refuse(serializer, PacketError::OutputTooShort);
-    }
-    let first = plan.first;
-    let later = plan.later;
-    let header = first.header;
-    // Before the bytes are written: a copy of the encoder straight after these stores would wait for them.
-    let row = row_of(message.type_id);
-    let mut next = serializer;
-    next.previous_headers[row] = header;
-    next.max_chunk_size = size_after;
-    write_packet(first, later, payload, plan.size, output);
-    Serialized {
-        serializer: next,
-        packet: Ok(needed),
+    match payload.len() {
+        0 => Err(PacketError::NoPayload),
+        1..=MAX_MESSAGE_LENGTH => Ok(payload.len() as u32),
+        _ => Err(PacketError::MessageTooLong),
     }
 }
 
@@ -117,17 +58,52 @@ impl ChunkSerializer {
     pub fn new() -> ChunkSerializer
         ensures { result ≡ fresh }
     {
-        let nothing = ChunkHeader::new();
         ChunkSerializer {
-            previous_headers: [nothing; 5],
+            previous_headers: [ChunkHeader::new(); 5],
             max_chunk_size: INITIAL_MAX_CHUNK_SIZE,
             unused: 0,
         }
     }
 
+    // The plan of a message, after what is remembered of its stream.
+    fn plan<'a>(&self, message: Message, payload: &'a [u8]) -> Plan<'a>
+        requires { (0 < length payload.now) × (length payload.now ≤ max_length) }
+        ensures first { result.first ≡ first_chunk message (previous self.now message) }
+        ensures bytes { bytes_of result ≡ packet_of self.now message payload.now }
+    {
+        let previous = self.previous_headers[row_of(message.type_id)];
+        Plan::new(message, previous, self.max_chunk_size, payload)
+    }
+
+    // Sends a message whose payload has a length that is allowed; from then on chunks have `size_after`.
+    #[tactic(auto, unfolding(crate::specs::Serialize::sent))]
+    fn send(
+        &mut self,
+        message: Message,
+        payload: &[u8],
+        size_after: u32,
+        output: &mut [u8],
+    ) -> Result<usize, PacketError>
+        requires { (0 < length payload.now) × (length payload.now ≤ max_length) }
+        ensures { outcome result self.new output.new ≡ sent self.old message payload.now size_after output.old }
+    {
+        let plan = self.plan(message, payload);
+        let needed = plan.length();
+        if output.len() < needed {
+            return Err(PacketError::OutputTooShort);
+        }
+        // Before the bytes are written: a copy of the encoder straight after these stores would wait for them.
+        self.previous_headers[row_of(message.type_id)] = plan.first.header;
+        self.max_chunk_size = size_after;
+        plan.write(output);
+        Ok(needed)
+    }
+
     // Writes a message at the start of `output`.
+    // Kept: six arguments for a message, here and in `packet_length`: the public signature, which README names.
+    #[tactic(auto, unfolding(crate::specs::Serialize::serialized))]
     pub fn serialize(
-        self,
+        mut self,
         type_id: u8,
         stream_id: u32,
         timestamp: RtmpTimestamp,
@@ -136,47 +112,62 @@ impl ChunkSerializer {
         can_be_dropped: bool,
         output: &mut [u8],
     ) -> Serialized
-        ensures { outcome_of result output.new ≡ serialized self (Message·message type_id stream_id timestamp.value (length payload.now) force_uncompressed can_be_dropped) payload.now output.old }
+        ensures { outcome_of result output.new ≡ serialized self (message_of type_id stream_id timestamp.value (length payload.now) force_uncompressed can_be_dropped) payload.now output.old }
     {
-        if payload.len() == 0 {
-            return refuse(self, PacketError::NoPayload);
+        let size = self.max_chunk_size;
+        let packet = match payload_length(payload) {
+            Ok(length) => {
+                let message = Message {
+                    type_id,
+                    stream_id,
+                    timestamp,
+                    length,
+                    force_uncompressed,
+                    can_be_dropped,
+                };
+                self.send(message, payload, size, output)
+            }
+            Err(error) => Err(error),
+        };
+        Serialized {
+            serializer: self,
+            packet,
         }
-        if MAX_MESSAGE_LENGTH < payload.len() {
-            return refuse(self, PacketError::MessageTooLong);
-        }
-        let message = message(
-            type_id,
-            stream_id,
-            timestamp,
-            payload.len() as u32,
-            force_uncompressed,
-            can_be_dropped,
-        );
-        send(self, message, payload, self.max_chunk_size, output)
     }
 
     // Writes the message that tells the new size, which holds afterwards.
+    #[tactic(auto, unfolding(crate::specs::Serialize::size_changed))]
     pub fn set_max_chunk_size(
-        self,
+        mut self,
         new_size: u32,
         time: RtmpTimestamp,
         output: &mut [u8],
     ) -> Serialized
         ensures { outcome_of result output.new ≡ size_changed self new_size time.value output.old }
     {
-        if new_size == 0 {
-            return refuse(self, PacketError::ChunkSizeZero);
+        let packet = match new_size {
+            0 => Err(PacketError::ChunkSizeZero),
+            1..=LARGEST_CHUNK_SIZE => {
+                let message = Message {
+                    type_id: 1,
+                    stream_id: 0,
+                    timestamp: time,
+                    length: 4,
+                    force_uncompressed: true,
+                    can_be_dropped: false,
+                };
+                self.send(message, &new_size.to_be_bytes(), new_size, output)
+            }
+            _ => Err(PacketError::InvalidMaxChunkSize),
+        };
+        Serialized {
+            serializer: self,
+            packet,
         }
-        if LARGEST_CHUNK_SIZE < new_size {
-            return refuse(self, PacketError::InvalidMaxChunkSize);
-        }
-        let mut body = [0u8; 4];
-        put_number(new_size, 4, &mut body, 0);
-        let message = message(1, 0, time, 4, true, false);
-        send(self, message, &body, new_size, output)
     }
 
     // What `serialize` answers of the same message where the output is long enough.
+    #[tactic(auto, unfolding(crate::specs::Serialize::needed))]
     pub fn packet_length(
         self,
         type_id: u8,
@@ -186,23 +177,17 @@ impl ChunkSerializer {
         force_uncompressed: bool,
         can_be_dropped: bool,
     ) -> Result<usize, PacketError>
-        ensures { answer_of result ≡ needed self (Message·message type_id stream_id timestamp.value (length payload.now) force_uncompressed can_be_dropped) payload.now }
+        ensures { answer_of result ≡ needed self (message_of type_id stream_id timestamp.value (length payload.now) force_uncompressed can_be_dropped) payload.now }
     {
-        if payload.len() == 0 {
-            return Err(PacketError::NoPayload);
-        }
-        if MAX_MESSAGE_LENGTH < payload.len() {
-            return Err(PacketError::MessageTooLong);
-        }
-        let message = message(
+        let message = Message {
             type_id,
             stream_id,
             timestamp,
-            payload.len() as u32,
+            length: payload_length(payload)?,
             force_uncompressed,
             can_be_dropped,
-        );
-        Ok(bytes_needed(plan_for(self, message), payload))
+        };
+        Ok(self.plan(message, payload).length())
     }
 
     pub fn get_max_chunk_size(self) -> u32

@@ -1,182 +1,106 @@
 // How a packet is written: chunk after chunk, each field at its place.
 ghost use Rattle.std.specs.Prelude.{◌≡◌, [], ◌++◌, ◌+◌, ◌*◌, ◌≤◌, ◌<◌, length};
 ghost use Rattle.fields.specs.Endian.{big_endian, little_endian};
-ghost use Rattle.fields.specs.Output.{Adds, over, stored};
+ghost use Rattle.fields.specs.Output.{over};
 ghost use Rattle.chunk_header.specs.Layout.{chunk_bytes, extended_bytes, header_bytes};
 ghost use Rattle.chunk_header.specs.Table.{header_length, type_of};
-ghost use Rattle.serializer.specs.Packet.{chunk, chunked, extended, initial_time, message_header};
+ghost use Rattle.serializer.specs.Cursor.{Added, HasRoom};
+ghost use Rattle.serializer.specs.Packet.{chunk, extended, initial_time, message_header};
+ghost use Rattle.serializer.specs.Plan.{bytes_of};
 
-use crate::format::FirstChunk;
-use chunk_header::{ChunkHeader, ChunkHeaderFormat, MAX_INITIAL_TIMESTAMP, chunk_type};
-use fields::{least, put_bytes, put_number, swap_bytes};
+use crate::cursor::Cursor;
+use crate::plan::Plan;
+use chunk_header::{ChunkHeader, ChunkHeaderFormat, MAX_INITIAL_TIMESTAMP};
 
-// The 24-bit field of a time.
-fn initial_timestamp(timestamp_field: u32) -> u32
-    ensures { result ≡ initial_time timestamp_field }
-{
-    if timestamp_field < MAX_INITIAL_TIMESTAMP {
-        return timestamp_field;
-    }
-    MAX_INITIAL_TIMESTAMP
-}
-
-// Adds a field, and answers the place after it.
-fn add_field(output: &mut [u8], at: usize, value: u32, width: usize) -> usize
-    requires { at + width ≤ length output.old }
-    ensures { Adds output.old at (big_endian width value) result output.new }
-{
-    put_number(value, width, output, at);
-    at + width
-}
-
-fn add_initial_timestamp(output: &mut [u8], at: usize, header: ChunkHeader) -> usize
-    requires { at + 3 ≤ length output.old }
-    ensures { Adds output.old at (big_endian 3 (initial_time header.timestamp_field)) result output.new }
-{
-    let initial = initial_timestamp(header.timestamp_field);
-    add_field(output, at, initial, 3)
-}
-
-fn add_message_length_and_type_id(output: &mut [u8], at: usize, header: ChunkHeader) -> usize
-    requires { at + 4 ≤ length output.old }
-    ensures { Adds output.old at (big_endian 3 header.message_length ++ big_endian 1 header.message_type_id) result output.new }
-{
-    let next = add_field(output, at, header.message_length, 3);
-    add_field(output, next, header.message_type_id as u32, 1)
-}
-
-fn add_message_stream_id(output: &mut [u8], at: usize, header: ChunkHeader) -> usize
-    requires { at + 4 ≤ length output.old }
-    ensures { Adds output.old at (little_endian 4 header.message_stream_id) result output.new }
-{
-    let swapped = swap_bytes(header.message_stream_id);
-    add_field(output, at, swapped, 4)
-}
-
-// Adds the fields that a chunk of this format has.
-fn add_message_header(
-    output: &mut [u8],
-    at: usize,
-    format: ChunkHeaderFormat,
-    header: ChunkHeader,
-) -> usize
-    requires { at + header_length (type_of format) ≤ length output.old }
-    ensures { Adds output.old at (header_bytes (message_header format header)) result output.new }
-{
-    match format {
-        ChunkHeaderFormat::Full => {
-            let at1 = add_initial_timestamp(output, at, header);
-            let at2 = add_message_length_and_type_id(output, at1, header);
-            add_message_stream_id(output, at2, header)
-        }
-        ChunkHeaderFormat::TimeDeltaWithoutMessageStreamId => {
-            let next = add_initial_timestamp(output, at, header);
-            add_message_length_and_type_id(output, next, header)
-        }
-        ChunkHeaderFormat::TimeDeltaOnly => add_initial_timestamp(output, at, header),
-        ChunkHeaderFormat::Empty => at,
-    }
-}
-
-fn add_extended_timestamp(output: &mut [u8], at: usize, field: u32) -> usize
-    requires { at + length (extended_bytes (extended «field»)) ≤ length output.old }
-    ensures { Adds output.old at (extended_bytes (extended «field»)) result output.new }
-{
-    if field < MAX_INITIAL_TIMESTAMP {
-        return at;
-    }
-    add_field(output, at, field, 4)
-}
-
+#[tactic(auto, using(chunk_header::proofs::Table::type_lt))]
 fn first_byte(format: ChunkHeaderFormat, csid: u32) -> u32
     requires { csid < 64 }
     ensures { result ≡ 64 * type_of format + csid }
 {
-    64 * chunk_type(format) as u32 + csid
+    64 * format as u32 + csid
 }
 
-// Adds what comes before a chunk's payload.
-fn add_header(output: &mut [u8], at: usize, format: ChunkHeaderFormat, header: ChunkHeader) -> usize
-    requires { (header.chunk_stream_id < 64) × (at + length (chunk_bytes (chunk format header [])) ≤ length output.old) }
-    ensures { Adds output.old at (chunk_bytes (chunk format header [])) result output.new }
-{
-    let basic = first_byte(format, header.chunk_stream_id);
-    let at1 = add_field(output, at, basic, 1);
-    let at2 = add_message_header(output, at1, format, header);
-    add_extended_timestamp(output, at2, header.timestamp_field)
-}
-
-// Puts a payload from `at` on. A long one goes in two parts, so that most of it is stored at multiples of 16, counted from the
-// output's start: stores that reach into two lines of the cache take longer.
-fn put_payload(payload: &[u8], output: &mut [u8], at: usize)
-    requires { at + length payload.now ≤ length output.old }
-    ensures { output.new ≡ stored output.old at payload.now }
-{
-    let short = 16 - at % 16;
-    if payload.len() < 512 {
-        put_bytes(payload, output, at);
-        return;
+impl Cursor<'_> {
+    // Adds the 24-bit field of the time.
+    fn initial_timestamp(&mut self, header: ChunkHeader)
+        requires { HasRoom self.old 3 }
+        ensures { Added self.old (big_endian 3 (initial_time header.timestamp_field)) self.new }
+    {
+        self.number(header.timestamp_field.min(MAX_INITIAL_TIMESTAMP), 3);
     }
-    put_bytes(&payload[0..short], output, at);
-    put_bytes(&payload[short..], output, at + short);
-}
 
-// Adds a chunk, and answers the place after it.
-fn add_chunk(
-    output: &mut [u8],
-    at: usize,
-    format: ChunkHeaderFormat,
-    header: ChunkHeader,
-    payload: &[u8],
-) -> usize
-    requires { (header.chunk_stream_id < 64) × (at + length (chunk_bytes (chunk format header payload.now)) ≤ length output.old) }
-    ensures { Adds output.old at (chunk_bytes (chunk format header payload.now)) result output.new }
-{
-    let next = add_header(output, at, format, header);
-    put_payload(payload, output, next);
-    next + payload.len()
-}
+    #[tactic(auto, using(fields::proofs::Endian::length_big))]
+    fn message_length_and_type_id(&mut self, header: ChunkHeader)
+        requires { HasRoom self.old 4 }
+        ensures { Added self.old (big_endian 3 header.message_length ++ big_endian 1 header.message_type_id) self.new }
+    {
+        self.number(header.message_length, 3);
+        self.number(u32::from(header.message_type_id), 1);
+    }
 
-// Writes the chunks of a payload at the start of the output: the first one has a format of its own.
-fn write_chunks(
-    first: FirstChunk,
-    later: ChunkHeaderFormat,
-    payload: &[u8],
-    size: usize,
-    output: &mut [u8],
-)
-    requires { (first.header.chunk_stream_id < 64) × (0 < size) × (length (chunked first.format later first.header size payload.now) ≤ length output.old) }
-    ensures { output.new ≡ over (chunked first.format later first.header size payload.now) output.old }
-{
-    let header = first.header;
-    let mut format = first.format;
-    let mut at = 0;
-    let mut from = 0;
-    while from < payload.len() {
-        let n = least(size, payload.len() - from);
-        at = add_chunk(output, at, format, header, &payload[from..from + n]);
-        format = later;
-        from += n;
+    fn message_stream_id(&mut self, header: ChunkHeader)
+        requires { HasRoom self.old 4 }
+        ensures { Added self.old (little_endian 4 header.message_stream_id) self.new }
+    {
+        self.number(header.message_stream_id.swap_bytes(), 4);
+    }
+
+    // Adds the fields that a chunk of this format has.
+    #[tactic(auto, unfolding(chunk_header::specs::Table::header_length, chunk_header::specs::Table::field_length, fields::specs::Endian::big_endian))]
+    fn message_header(&mut self, format: ChunkHeaderFormat, header: ChunkHeader)
+        requires { HasRoom self.old (header_length (type_of format)) }
+        ensures { Added self.old (header_bytes (message_header format header)) self.new }
+    {
+        match format {
+            ChunkHeaderFormat::Full => {
+                self.initial_timestamp(header);
+                self.message_length_and_type_id(header);
+                self.message_stream_id(header);
+            }
+            ChunkHeaderFormat::TimeDeltaWithoutMessageStreamId => {
+                self.initial_timestamp(header);
+                self.message_length_and_type_id(header);
+            }
+            ChunkHeaderFormat::TimeDeltaOnly => self.initial_timestamp(header),
+            ChunkHeaderFormat::Empty => {}
+        }
+    }
+
+    #[tactic(auto, using(crate::proofs::Added::added_none), unfolding(fields::specs::Endian::big_endian))]
+    fn extended_timestamp(&mut self, field: u32)
+        requires { HasRoom self.old (length (extended_bytes (extended «field»))) }
+        ensures { Added self.old (extended_bytes (extended «field»)) self.new }
+    {
+        if MAX_INITIAL_TIMESTAMP <= field {
+            self.number(field, 4);
+        }
+    }
+
+    // Adds a chunk: what comes before its payload, and the payload.
+    #[tactic(auto, using(crate::proofs::Chunk::length_header, crate::proofs::Chunk::length_head, crate::proofs::PacketLength::length_chunk, fields::proofs::Endian::length_big))]
+    fn chunk(&mut self, format: ChunkHeaderFormat, header: ChunkHeader, payload: &[u8])
+        requires { (header.chunk_stream_id < 64) × HasRoom self.old (length (chunk_bytes (chunk format header payload.now))) }
+        ensures { Added self.old (chunk_bytes (chunk format header payload.now)) self.new }
+    {
+        self.number(first_byte(format, header.chunk_stream_id), 1);
+        self.message_header(format, header);
+        self.extended_timestamp(header.timestamp_field);
+        self.payload(payload);
     }
 }
 
-// Writes the packet of a message at the start of the output. Most messages are one chunk.
-pub fn write_packet(
-    first: FirstChunk,
-    later: ChunkHeaderFormat,
-    payload: &[u8],
-    size: usize,
-    output: &mut [u8],
-)
-    requires { (first.header.chunk_stream_id < 64) × (0 < size) × (0 < length payload.now) × (length (chunked first.format later first.header size payload.now) ≤ length output.old) }
-    ensures { output.new ≡ over (chunked first.format later first.header size payload.now) output.old }
-{
-    if size < payload.len() {
-        write_chunks(first, later, payload, size, output);
-        return;
+impl Plan<'_> {
+    // Writes the chunks at the start of the output.
+    pub fn write(&self, output: &mut [u8])
+        requires { length (bytes_of self.now) ≤ length output.old }
+        ensures { output.new ≡ over (bytes_of self.now) output.old }
+    {
+        let header = self.first.header;
+        let (first, rest) = self.payload.split_at(self.size.min(self.payload.len()));
+        let mut cursor = Cursor { output, at: 0 };
+        cursor.chunk(self.first.format, header, first);
+        for piece in rest.chunks(self.size) {
+            cursor.chunk(self.later, header, piece);
+        }
     }
-    let header = first.header;
-    let format = first.format;
-    let at = add_header(output, 0, format, header);
-    put_payload(payload, output, at);
 }

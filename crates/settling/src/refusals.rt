@@ -2,40 +2,42 @@
 ghost use Rattle.std.specs.Prelude.{◌≡◌, not, ◌&&◌};
 ghost use Rattle.chunk_meaning.specs.Meaning.{basic_refusal};
 ghost use Rattle.chunk_header.specs.Table.{is_empty, is_full};
+ghost use Rattle.held.specs.Done.{refused_by};
 
 use chunk_header::ChunkHeaderFormat;
+use held::ChunkRefusal;
 
 pub fn is_full(format: ChunkHeaderFormat) -> bool
     ensures { result ≡ is_full format }
 {
-    matches!(format, ChunkHeaderFormat::Full)
+    format == ChunkHeaderFormat::Full
 }
 
 fn is_empty(format: ChunkHeaderFormat) -> bool
     ensures { result ≡ is_empty format }
 {
-    matches!(format, ChunkHeaderFormat::Empty)
+    format == ChunkHeaderFormat::Empty
 }
 
-fn refuses_9(format: ChunkHeaderFormat, has_row: bool, inside: bool) -> bool
+fn is_unknown(format: ChunkHeaderFormat, has_row: bool, inside: bool) -> bool
     ensures { result ≡ (not inside && (not (is_full format) && not has_row)) }
 {
     !inside && !is_full(format) && !has_row
 }
 
-fn refuses_10(format: ChunkHeaderFormat, has_row: bool, has_free: bool) -> bool
+fn is_one_too_many(format: ChunkHeaderFormat, has_row: bool, has_free: bool) -> bool
     ensures { result ≡ (is_full format && (not has_row && not has_free)) }
 {
     is_full(format) && !has_row && !has_free
 }
 
-fn refuses_11(inside: bool, own: bool) -> bool
+fn is_other_stream(inside: bool, own: bool) -> bool
     ensures { result ≡ (inside && not own) }
 {
     inside && !own
 }
 
-fn refuses_12(format: ChunkHeaderFormat, inside: bool) -> bool
+fn is_other_header(format: ChunkHeaderFormat, inside: bool) -> bool
     ensures { result ≡ (inside && (not (is_full format) && not (is_empty format))) }
 {
     inside && !is_full(format) && !is_empty(format)
@@ -48,20 +50,20 @@ pub fn basic_refusal(
     has_free: bool,
     inside: bool,
     own: bool,
-) -> u32
-    ensures { result ≡ basic_refusal format has_row has_free inside own }
+) -> Result<(), ChunkRefusal>
+    ensures { refused_by result ≡ basic_refusal format has_row has_free inside own }
 {
-    if refuses_9(format, has_row, inside) {
-        return 9;
+    if is_unknown(format, has_row, inside) {
+        return Err(ChunkRefusal::UnknownStream);
     }
-    if refuses_10(format, has_row, has_free) {
-        return 10;
+    if is_one_too_many(format, has_row, has_free) {
+        return Err(ChunkRefusal::TooManyStreams);
     }
-    if refuses_11(inside, own) {
-        return 11;
+    if is_other_stream(inside, own) {
+        return Err(ChunkRefusal::OtherStream);
     }
-    if refuses_12(format, inside) {
-        return 12;
+    if is_other_header(format, inside) {
+        return Err(ChunkRefusal::OtherHeader);
     }
-    0
+    Ok(())
 }

@@ -1,53 +1,55 @@
 // A header that is whole, and the fields that may come before it is.
-ghost use Rattle.std.specs.Prelude.{◌≡◌, not, ◌&&◌, ◌==◌, nat_lt};
+ghost use Rattle.std.specs.Prelude.{◌≡◌, not, ◌&&◌, ◌==◌, nat_lt, ◌≢◌, Ok};
 ghost use Rattle.chunk_header.specs.Limits.{max_field};
-ghost use Rattle.time.specs.Clock.{sum as Clock·sum};
 ghost use Rattle.chunk_header.specs.Table.{is_full};
-ghost use Rattle.chunk_meaning.specs.Meaning.{first_refusal, first_time, later_refusal, repeats as Meaning·repeats};
-ghost use Rattle.byte_machine.specs.Header.{extended_next, length_next, stream_next, timestamp_next, type_next, whole};
-ghost use Rattle.byte_machine.specs.Header.{lacks as Header·lacks};
-ghost use Rattle.held.specs.Done.{done_of};
-ghost use Rattle.settling.specs.Opened.{opened_to};
+ghost use Rattle.chunk_meaning.specs.Meaning.{first_refusal, first_time, later_refusal, repeats as message_repeats};
+ghost use Rattle.byte_machine.specs.Header.{extended_next, lacks, length_next, stage_of as field_stage, stream_next, timestamp_next, type_next, whole};
+ghost use Rattle.byte_machine.specs.Reader.{at, go};
+ghost use Rattle.held.specs.Done.{done_of, meant_by, refused_by, told};
 ghost use Rattle.held.specs.Numbers.{reader_from, row_from, setting_in};
+ghost use Rattle.held.specs.Stages.{stage_of};
+ghost use Rattle.settling.specs.Opened.{opened_to};
 
 use crate::refusals::is_full;
 use chunk_header::{ChunkHeaderFormat, HeaderField, MAX_INITIAL_TIMESTAMP, field_length};
-use held::{Done, Held, HeldRow, goes, lacking, least, refused};
+use held::{ChunkRefusal, Done, Event, Held, HeldRow, Stage, goes};
 
 // The payload of a chunk. A message of no bytes ends here.
 #[tactic(auto, unfolding(byte_machine::specs::Header::opens))]
 fn opened(h: Held, time: u32, got: u32) -> Done
-    ensures { result ≡ done_of h (opened_to h time got) }
+    ensures { Ok (meant_by result) ≡ done_of h (opened_to h time got) }
 {
-    let mut next = h;
-    next.number = 0;
-    next.lacks = 0;
-    next.header.time = time;
-    if h.header.length == 0 {
-        next.stage = 0;
-        next.id = 0;
-        next.got = 0;
+    let header = HeldRow { time, ..h.header };
+    if header.length == 0 {
         return Done {
-            held: next,
-            event: 2,
-            number: 0,
-            place: h.place,
+            held: Held {
+                stage: Stage::Csid,
+                id: 0,
+                got: 0,
+                header,
+                ..h
+            },
+            event: Event::Message,
+            place: Some(h.place),
         };
     }
-    next.stage = 8;
-    next.got = got;
-    next.left = least(h.size, lacking(h.header.length, got));
+    let left = h.size.min(header.length.saturating_sub(got));
     Done {
-        held: next,
-        event: 0,
-        number: 0,
-        place: 64,
+        held: Held {
+            stage: Stage::MessagePayload,
+            got,
+            left,
+            header,
+            ..h
+        },
+        event: Event::Go,
+        place: None,
     }
 }
 
 // Whether a header repeats its message's.
 fn repeats(message: HeldRow, header: HeldRow, time: u32) -> bool
-    ensures { result ≡ Meaning·repeats (row_from message) (row_from header) time }
+    ensures { result ≡ message_repeats (row_from message) (row_from header) time }
 {
     header.length == message.length
         && header.kind == message.kind
@@ -55,34 +57,31 @@ fn repeats(message: HeldRow, header: HeldRow, time: u32) -> bool
         && time == message.time
 }
 
-// What is refused of a later chunk, and of a first one; 0: nothing.
+// What is refused of a later chunk, and of a first one.
 #[tactic(auto, unfolding(chunk_meaning::specs::Meaning::later_refusal))]
-fn later_refusal(h: Held, time: u32) -> u32
-    ensures { result ≡ later_refusal h.format (row_from h.before) (row_from h.header) time }
+fn later_refusal(h: Held, time: u32) -> Result<(), ChunkRefusal>
+    ensures { refused_by result ≡ later_refusal h.format (row_from h.before) (row_from h.header) time }
 {
-    if is_full(h.format) {
-        if repeats(h.before, h.header, time) {
-            return 0;
-        }
-        return 12;
+    if is_full(h.format) && !repeats(h.before, h.header, time) {
+        return Err(ChunkRefusal::OtherHeader);
     }
-    0
+    Ok(())
 }
 
 #[tactic(auto, unfolding(chunk_meaning::specs::Meaning::first_refusal))]
-fn first_refusal(h: Held, time: u32) -> u32
-    ensures { result ≡ first_refusal h.format (row_from h.header) time h.room }
+fn first_refusal(h: Held, time: u32) -> Result<(), ChunkRefusal>
+    ensures { refused_by result ≡ first_refusal h.format (row_from h.header) time h.room }
 {
-    if refuses_13(h, time) {
-        return 13;
+    if is_small_extended(h, time) {
+        return Err(ChunkRefusal::SmallExtendedDelta);
     }
     if h.room < h.header.length {
-        return 14;
+        return Err(ChunkRefusal::LengthOverRoom);
     }
-    0
+    Ok(())
 }
 
-fn refuses_13(h: Held, time: u32) -> bool
+fn is_small_extended(h: Held, time: u32) -> bool
     ensures { result ≡ (not (is_full h.format) && (h.header.field == max_field && nat_lt time max_field)) }
 {
     !is_full(h.format) && h.header.field == MAX_INITIAL_TIMESTAMP && time < MAX_INITIAL_TIMESTAMP
@@ -95,92 +94,90 @@ pub fn first_time(format: ChunkHeaderFormat, before: u32, time: u32) -> u32
     if is_full(format) {
         return time;
     }
-    sum(before, time)
-}
-
-fn sum(a: u32, b: u32) -> u32
-    ensures { result ≡ Clock·sum a b }
-{
-    std::num::wrapping_add_u32(a, b)
+    before.wrapping_add(time)
 }
 
 // A header that is whole, with the number that it says of the time.
-#[tactic(auto, unfolding(byte_machine::specs::Header::whole))]
-pub fn settled(h: Held, time: u32) -> Done
-    ensures { result ≡ done_of h (whole (setting_in h) (reader_from h) time) }
+#[tactic(auto, using(held::proofs::Refusals::is_refused), unfolding(byte_machine::specs::Header::whole))]
+pub fn settled(h: Held, time: u32) -> Result<Done, ChunkRefusal>
+    ensures { told result ≡ done_of h (whole (setting_in h) (reader_from h) time) }
 {
     if h.id == 0 {
-        let k = first_refusal(h, time);
-        if k != 0 {
-            return refused(h, k);
-        }
-        return opened(h, first_time(h.format, h.before.time, time), 0);
+        first_refusal(h, time)?;
+        return Ok(opened(h, first_time(h.format, h.before.time, time), 0));
     }
-    let k = later_refusal(h, time);
-    if k != 0 {
-        return refused(h, k);
-    }
-    opened(h, h.before.time, h.got)
+    later_refusal(h, time)?;
+    Ok(opened(h, h.before.time, h.got))
 }
 
 #[tactic(auto, unfolding(byte_machine::specs::Header::extended_next))]
-pub fn extended_next(h: Held) -> Done
-    ensures { result ≡ done_of h (extended_next (setting_in h) (reader_from h)) }
+pub fn extended_next(h: Held) -> Result<Done, ChunkRefusal>
+    ensures { told result ≡ done_of h (extended_next (setting_in h) (reader_from h)) }
 {
     if h.header.field == MAX_INITIAL_TIMESTAMP {
-        return goes(h, 7, 0, 4);
+        let stage = Stage::ExtendedTimestamp {
+            gathered: 0,
+            lacks: 4,
+        };
+        return Ok(goes(h, stage));
     }
     settled(h, h.header.field)
 }
 
-// How many bytes a field has in the chunk at hand.
-fn lacks(h: Held, field: HeaderField) -> u32
-    ensures { result ≡ Header·lacks (reader_from h) field }
+// The stage before the first byte of a field.
+fn stage_at(field: HeaderField, lacks: u32) -> Stage
+    ensures { stage_of result ≡ field_stage field lacks }
 {
-    field_length(h.format, field)
+    let gathered = 0;
+    match field {
+        HeaderField::Timestamp => Stage::InitialTimestamp { gathered, lacks },
+        HeaderField::MessageLength => Stage::MessageLength { gathered, lacks },
+        HeaderField::MessageTypeId => Stage::MessageTypeId,
+        HeaderField::MessageStreamId => Stage::MessageStreamId { gathered, lacks },
+    }
 }
 
-// Each field comes next, or is passed over where the format does not have it.
-#[tactic(auto, unfolding(byte_machine::specs::Header::stream_next))]
-pub fn stream_next(h: Held) -> Done
-    ensures { result ≡ done_of h (stream_next (setting_in h) (reader_from h)) }
+// A field comes next, or is passed over where the format does not have it: then what is after it comes.
+fn field_or<F: FnOnce(Held) -> Result<Done, ChunkRefusal>>(
+    h: Held,
+    field: HeaderField,
+    after: F,
+) -> Result<Done, ChunkRefusal>
+    requires { F.pre after h }
+    ensures passes { lacks (reader_from h) field ≡ 0 → F.post after h result }
+    ensures stops { lacks (reader_from h) field ≢ 0 → told result ≡ done_of h (go (at (reader_from h) (field_stage field (lacks (reader_from h) field)))) }
 {
-    let n = lacks(h, HeaderField::MessageStreamId);
-    if n == 0 {
-        return extended_next(h);
+    let lacks = field_length(h.format, field);
+    if lacks == 0 {
+        return after(h);
     }
-    goes(h, 6, 0, n)
+    Ok(goes(h, stage_at(field, lacks)))
+}
+
+#[tactic(auto, unfolding(byte_machine::specs::Header::stream_next))]
+pub fn stream_next(h: Held) -> Result<Done, ChunkRefusal>
+    ensures { told result ≡ done_of h (stream_next (setting_in h) (reader_from h)) }
+{
+    field_or(h, HeaderField::MessageStreamId, extended_next)
 }
 
 #[tactic(auto, unfolding(byte_machine::specs::Header::type_next))]
-pub fn type_next(h: Held) -> Done
-    ensures { result ≡ done_of h (type_next (setting_in h) (reader_from h)) }
+pub fn type_next(h: Held) -> Result<Done, ChunkRefusal>
+    ensures { told result ≡ done_of h (type_next (setting_in h) (reader_from h)) }
 {
-    let n = lacks(h, HeaderField::MessageTypeId);
-    if n == 0 {
-        return stream_next(h);
-    }
-    goes(h, 5, 0, 0)
+    field_or(h, HeaderField::MessageTypeId, stream_next)
 }
 
 #[tactic(auto, unfolding(byte_machine::specs::Header::length_next))]
-pub fn length_next(h: Held) -> Done
-    ensures { result ≡ done_of h (length_next (setting_in h) (reader_from h)) }
+pub fn length_next(h: Held) -> Result<Done, ChunkRefusal>
+    ensures { told result ≡ done_of h (length_next (setting_in h) (reader_from h)) }
 {
-    let n = lacks(h, HeaderField::MessageLength);
-    if n == 0 {
-        return type_next(h);
-    }
-    goes(h, 4, 0, n)
+    field_or(h, HeaderField::MessageLength, type_next)
 }
 
 #[tactic(auto, unfolding(byte_machine::specs::Header::timestamp_next))]
-pub fn timestamp_next(h: Held) -> Done
-    ensures { result ≡ done_of h (timestamp_next (setting_in h) (reader_from h)) }
+pub fn timestamp_next(h: Held) -> Result<Done, ChunkRefusal>
+    ensures { told result ≡ done_of h (timestamp_next (setting_in h) (reader_from h)) }
 {
-    let n = lacks(h, HeaderField::Timestamp);
-    if n == 0 {
-        return length_next(h);
-    }
-    goes(h, 3, 0, n)
+    field_or(h, HeaderField::Timestamp, length_next)
 }

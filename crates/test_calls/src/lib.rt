@@ -1,15 +1,19 @@
-// Calls of the codec as several test tools make them: an encoder and a decoder that know a chunk size, what a packet says, and
-// a walk of a decoder through an input. A test tool: it is proved safe and ending, and promises nothing further.
+// Calls of the codec as several test tools make them: an encoder that knows a chunk size, a decoder with what it lends, and a
+// walk of a decoder through an input. A test tool: it is proved safe and ending, and promises what its few clauses say.
 #![tactic(auto)]
 
-mod fresh;
-mod packets;
-mod pieces;
+mod cut;
+mod decoder;
+mod encoders;
+mod stop;
+mod told;
 mod used;
-mod walking;
+mod walk;
 
-pub use crate::fresh::{encoder, make_sized};
-pub use crate::packets::{count_of, refusal_of};
-pub use crate::pieces::Cut;
+pub use crate::cut::Cut;
+pub use crate::decoder::Decoder;
+pub use crate::encoders::encoder;
+pub use crate::stop::Stop;
+pub use crate::told::size_told;
 pub use crate::used::used_of;
-pub use crate::walking::{Walk, Walked, may_tell, next_answer};
+pub use crate::walk::Walk;

@@ -4,8 +4,6 @@ use in_place::Answer;
 // How many bytes the call used.
 pub fn used_of(answer: Answer) -> usize {
     match answer {
-        Answer::Message { used, .. } => used,
-        Answer::More { used } => used,
-        Answer::Refused { used, .. } => used,
+        Answer::Message { used, .. } | Answer::More { used } | Answer::Refused { used, .. } => used,
     }
 }

@@ -1,69 +1,33 @@
 // A line that breaks: for each number of bytes, what comes out where the wire stops after so many.
-use crate::decode::{End, decode_all};
+use crate::decode::decode_all;
+use crate::encode::Line;
 use std::io;
-use test_parts::{part, print, print_numbered};
-
-// What came of the longest beginning so far.
-#[derive(Clone, Copy)]
-pub struct Broken {
-    // how many messages
-    pub count: usize,
-    // whether nothing was refused, every byte was used, and each message was the next one that was kept
-    pub is_good: bool,
-}
+use test_parts::part;
 
 // The pieces that the bytes come in.
 const PIECE: usize = 7;
 
-// Writes where a message came out first.
-fn print_place(rt: &impl Print, length: usize, count: usize) -> io::Result<()> {
-    print_numbered(rt, b"broken after ", length as u64)?;
-    print_numbered(rt, b": messages ", count as u64)?;
-    print(rt, b"\n")
-}
-
-// Looks at what came of the first `length` bytes, beside what came of one byte fewer.
-fn settle(rt: &impl Print, before: Broken, length: usize, end: End) -> io::Result<Broken> {
-    if before.count != end.count {
-        print_place(rt, length, end.count)?;
+// Breaks it after each number of its bytes, from 0 on to all of them. Writes where a message came out first, and in the end whether
+// nothing was refused, every byte was used, and each message was the next one that was kept.
+pub fn break_all(rt: &impl Print, line: Line<'_>) -> io::Result<()> {
+    let mut count = 0;
+    let mut is_good = true;
+    for length in 0..=line.wire.len() {
+        let broken = Line {
+            wire: part(line.wire, 0, length),
+            ..line
+        };
+        let end = decode_all(rt, broken, PIECE, false)?;
+        if end.count != count {
+            println!(rt; "broken after {length}: messages {}", end.count)?;
+        }
+        count = end.count;
+        is_good = is_good && end.is_good && end.used == length;
     }
-    Ok(Broken {
-        count: end.count,
-        is_good: before.is_good && end.is_good && end.used == length,
-    })
-}
-
-// Breaks the wire after `length` bytes.
-fn break_after(
-    rt: &impl Print,
-    before: Broken,
-    length: usize,
-    wire: &[u8],
-    places: &[u8],
-    payload: &mut [u8],
-    sent: &mut [u8],
-) -> io::Result<Broken> {
-    let begun = part(wire, 0, length);
-    let end = decode_all(rt, begun, places, PIECE, false, payload, sent)?;
-    settle(rt, before, length, end)
-}
-
-// Breaks it after each number of its bytes, from 0 on to all of them.
-pub fn break_all(
-    rt: &impl Print,
-    wire: &[u8],
-    places: &[u8],
-    payload: &mut [u8],
-    sent: &mut [u8],
-) -> io::Result<Broken> {
-    let mut so_far = Broken {
-        count: 0,
-        is_good: true,
+    let verdict = if is_good && count == line.kept.len() {
+        "every byte used, nothing refused"
+    } else {
+        "failed"
     };
-    let mut length = 0;
-    while length < wire.len() {
-        so_far = break_after(rt, so_far, length, wire, places, payload, sent)?;
-        length += 1;
-    }
-    break_after(rt, so_far, wire.len(), wire, places, payload, sent)
+    println!(rt; "broken after 0 to {} bytes: {verdict}", line.wire.len())
 }

@@ -1,19 +1,19 @@
 // The way in: the bytes on the wire in pieces, and each message beside the one that was kept.
-use crate::first_bytes::print_first_bytes;
-use crate::kept::is_kept_one;
-use fields::number_at;
-use in_place::{Answer, Message, Refusal, TABLE_LENGTH, make, set_max_chunk_size};
-use std::io;
-use test_calls::{Cut, Walk, may_tell, next_answer};
-use test_parts::{part, print, print_line, print_numbered};
+use crate::encode::Line;
+use crate::plan::plan;
+use crate::shown::Shown;
+use in_place::Message;
+use std::{io, slice};
+use test_calls::{Cut, Decoder, Stop, Walk, size_told};
 
-// How far the pieces are.
-#[derive(Clone, Copy)]
-struct Decoding {
-    walk: Walk,
-    // how many messages were handed out
+// The messages that are to come.
+#[derive(Drop)]
+struct Coming<'a> {
+    // the places of their calls
+    places: slice::Iter<'a, usize>,
+    // how many came
     count: usize,
-    // whether each answer is written
+    // whether each is written
     is_told: bool,
 }
 
@@ -28,229 +28,94 @@ pub struct End {
     pub may_tell: bool,
 }
 
-// What came of a way in.
-#[derive(Clone, Copy)]
-pub struct Arrived {
-    pub count: usize,
-    pub used: usize,
-    // whether all that was kept came out, and every byte was used
-    pub is_good: bool,
-}
-
 // The room of the decoder: the longest payload of the plan.
 const ROOM: u32 = 200;
 
-// No trip has more answers.
-const TURNS: usize = 10000;
-
-impl Decoding {
-    // Before the first piece, of pieces of at most `piece` bytes.
-    fn new(piece: usize, is_told: bool) -> Self {
-        Decoding {
-            walk: Walk::new(Cut::even(piece)),
-            count: 0,
-            is_told,
-        }
+impl Coming<'_> {
+    // Whether a message is the next one that was kept, its payload byte for byte.
+    fn is_next(&mut self, message: Message, payload: &[u8]) -> bool {
+        let Some(&place) = self.places.next() else {
+            return false;
+        };
+        let Some(&call) = plan().get(place) else {
+            return false;
+        };
+        let mut bytes = [0; 256];
+        call.is_of(message) && payload == call.payload(place, &mut bytes)
     }
 
-    // With something that went wrong.
-    fn bad(mut self) -> Self {
-        let walk = self.walk;
-        self.walk = walk.bad();
-        self
-    }
-
-    // With one more message, the one that was kept.
-    fn with_message(mut self) -> Self {
-        self.count = std::num::wrapping_add_usize(self.count, 1);
-        self
-    }
-
-    // With a new chunk size told.
-    fn told(
-        mut self,
+    // Takes a message. A size that it tells is told to the decoder.
+    fn take(
+        &mut self,
         rt: &impl Print,
-        size: u32,
-        telling: Result<(), Refusal>,
-    ) -> io::Result<Self> {
-        let walk = self.walk;
+        decoder: &mut Decoder,
+        message: Message,
+        payload: &[u8],
+    ) -> Result<(), Stop> {
         if self.is_told {
-            print_telling(rt, size, telling)?;
+            println!(rt; "{}", Shown { message, payload })?;
         }
-        self.walk = walk.told(telling);
-        Ok(self)
-    }
-}
-
-// Writes what became of a new chunk size.
-fn print_telling(rt: &impl Print, size: u32, telling: Result<(), Refusal>) -> io::Result<()> {
-    print_numbered(rt, b"told ", size as u64)?;
-    match telling {
-        Ok(()) => print(rt, b": taken")?,
-        Err(refusal) => print_numbered(rt, b": refused ", refusal.number as u64)?,
-    }
-    print(rt, b"\n")
-}
-
-// Writes a message's header.
-fn print_header(rt: &impl Print, message: Message) -> io::Result<()> {
-    print_numbered(rt, b"message ", message.type_id as u64)?;
-    print_numbered(rt, b" on stream ", message.stream_id as u64)?;
-    print_numbered(rt, b" at ", message.timestamp.value as u64)
-}
-
-// Writes a message.
-fn print_message(rt: &impl Print, message: Message, payload: &[u8]) -> io::Result<()> {
-    print_header(rt, message)?;
-    print_numbered(rt, b", ", payload.len() as u64)?;
-    print(rt, b" bytes: ")?;
-    print_first_bytes(rt, payload)?;
-    print(rt, b"\n")
-}
-
-// Takes a message that was handed out. One of type 1 tells a size.
-fn take_message(
-    rt: &impl Print,
-    so_far: Decoding,
-    held: &mut [u32; 24],
-    message: Message,
-    payload: &[u8],
-    places: &[u8],
-    sent: &mut [u8],
-) -> io::Result<Decoding> {
-    if so_far.is_told {
-        print_message(rt, message, payload)?;
-    }
-    let is_kept = is_kept_one(so_far.count, message, payload, places, sent);
-    if !is_kept {
-        print(rt, b"not the message that was kept\n")?;
-        return Ok(so_far.bad());
-    }
-    let next = so_far.with_message();
-    if message.type_id == 1 {
-        let size = number_at(payload, 0, 4);
-        return next.told(rt, size, set_max_chunk_size(held, size));
-    }
-    Ok(next)
-}
-
-// Takes an answer.
-fn take_answer(
-    rt: &impl Print,
-    so_far: Decoding,
-    held: &mut [u32; 24],
-    answer: Answer,
-    payload: &[u8],
-    places: &[u8],
-    sent: &mut [u8],
-) -> io::Result<Decoding> {
-    match answer {
-        Answer::Message { message, used: _ } => {
-            let bytes = part(payload, 0, message.length as usize);
-            take_message(rt, so_far, held, message, bytes, places, sent)
+        if !self.is_next(message, payload) {
+            return Err(Stop::NotKept);
         }
-        Answer::More { used: _ } => Ok(so_far),
-        Answer::Refused { number, used: _ } => {
-            print_line(rt, b"refused ", number as u64)?;
-            Ok(so_far.bad())
+        self.count = self.count.saturating_add(1);
+        if let Some(size) = size_told(message, payload) {
+            decoder.set_max_chunk_size(size).map_err(Stop::SizeRefused)?;
+            if self.is_told {
+                println!(rt; "told {size}: taken")?;
+            }
         }
+        Ok(())
     }
 }
 
-// Goes on to the next answer, and takes it.
-fn turn(
-    rt: &impl Print,
-    so_far: Decoding,
-    held: &mut [u32; 24],
-    rows: &mut [u32; TABLE_LENGTH],
-    wire: &[u8],
-    places: &[u8],
-    payload: &mut [u8],
-    sent: &mut [u8],
-) -> io::Result<Decoding> {
-    let walk = so_far.walk;
-    let walked = next_answer(walk, held, rows, wire, payload);
-    let after = walked.walk;
-    let answer = walked.answer;
-    let mut next = so_far;
-    next.walk = after;
-    take_answer(rt, next, held, answer, payload, places, sent)
-}
-
-// Offers all bytes of the wire.
-fn offer_all(
-    rt: &impl Print,
-    start: Decoding,
-    held: &mut [u32; 24],
-    rows: &mut [u32; TABLE_LENGTH],
-    wire: &[u8],
-    places: &[u8],
-    payload: &mut [u8],
-    sent: &mut [u8],
-) -> io::Result<Decoding> {
-    let mut so_far = start;
-    let mut turns = TURNS;
-    while 0 < turns {
-        so_far = turn(rt, so_far, held, rows, wire, places, payload, sent)?;
-        let walk = so_far.walk;
-        if walk.is_over(wire.len()) {
-            return Ok(so_far);
-        }
-        turns -= 1;
+// Offers all bytes of the wire to a new decoder in pieces, and writes each message where it `is_told` to.
+pub fn decode_all(rt: &impl Print, line: Line<'_>, piece: usize, is_told: bool) -> io::Result<End> {
+    let mut decoder = Decoder::new(ROOM);
+    let mut payload = [0; 256];
+    let mut walk = Walk::new(line.wire, Cut::Even(piece));
+    let mut coming = Coming {
+        places: line.kept.iter(),
+        count: 0,
+        is_told,
+    };
+    let walked = walk.each_message(&mut decoder, &mut payload, |decoder, message, payload| {
+        coming.take(rt, decoder, message, payload)
+    });
+    let is_good = walked.is_ok();
+    if let Err(stop) = walked {
+        stop.tell(rt)?;
     }
-    Ok(so_far)
-}
-
-// Offers all bytes of the wire to a new decoder in pieces, and writes each answer where it `is_told` to.
-pub fn decode_all(
-    rt: &impl Print,
-    wire: &[u8],
-    places: &[u8],
-    piece: usize,
-    is_told: bool,
-    payload: &mut [u8],
-    sent: &mut [u8],
-) -> io::Result<End> {
-    let mut held = [0u32; 24];
-    let mut rows = [0u32; TABLE_LENGTH];
-    let _ = make(&mut held, &mut rows, ROOM);
-    let start = Decoding::new(piece, is_told);
-    let end = offer_all(rt, start, &mut held, &mut rows, wire, places, payload, sent)?;
-    let walk = end.walk;
     Ok(End {
-        count: end.count,
+        count: coming.count,
         used: walk.used,
-        is_good: walk.is_good,
-        may_tell: may_tell(&mut held),
+        is_good,
+        may_tell: decoder.may_tell(),
     })
 }
 
-// Writes how far it came, and whether that is the end of a message.
-fn print_used(rt: &impl Print, used: usize, length: usize, may_tell: bool) -> io::Result<()> {
-    print_numbered(rt, b"used ", used as u64)?;
-    print_numbered(rt, b" of ", length as u64)?;
-    if may_tell {
-        print(rt, b", a size may be told\n")
-    } else {
-        print(rt, b", no size may be told\n")
-    }
+// Makes the way in with pieces of at most `piece` bytes. It is good if all that was kept came out, and every byte was used.
+fn decode(rt: &impl Print, line: Line<'_>, piece: usize) -> io::Result<End> {
+    println!(rt; "pieces of {piece}")?;
+    let end = decode_all(rt, line, piece, true)?;
+    let told = if end.may_tell { "a size" } else { "no size" };
+    println!(rt;
+        "used {} of {}, {told} may be told",
+        end.used,
+        line.wire.len()
+    )?;
+    let is_whole = end.used == line.wire.len() && end.count == line.kept.len();
+    Ok(End {
+        is_good: end.is_good && end.may_tell && is_whole,
+        ..end
+    })
 }
 
-// Makes the way in with pieces of at most `piece` bytes.
-pub fn decode(
-    rt: &impl Print,
-    wire: &[u8],
-    places: &[u8],
-    piece: usize,
-    payload: &mut [u8],
-    sent: &mut [u8],
-) -> io::Result<Arrived> {
-    print_line(rt, b"pieces of ", piece as u64)?;
-    let end = decode_all(rt, wire, places, piece, true, payload, sent)?;
-    print_used(rt, end.used, wire.len(), end.may_tell)?;
-    Ok(Arrived {
-        count: end.count,
-        used: end.used,
-        is_good: end.is_good && end.may_tell && end.used == wire.len() && end.count == places.len(),
-    })
+// Makes the way in three times: byte by byte, by sevens and in one piece. The answer is the first that went wrong, or else the last.
+pub fn decode_thrice(rt: &impl Print, line: Line<'_>) -> io::Result<End> {
+    let ones = decode(rt, line, 1)?;
+    let sevens = decode(rt, line, 7)?;
+    let whole = decode(rt, line, line.wire.len())?;
+    let went_wrong = [ones, sevens].into_iter().find(|end| !end.is_good);
+    Ok(went_wrong.unwrap_or(whole))
 }

@@ -1,121 +1,173 @@
 // The calls of the trip, in their order.
+use in_place::Message;
+use serializer::{ChunkSerializer, PacketError, Serialized};
+use std::fmt;
+use test_parts::part;
+use time::RtmpTimestamp;
+
+// What is asked of the encoder.
+#[derive(Clone, Copy)]
+enum Request {
+    // a message of a type on stream 1, with so many bytes of payload
+    Message { type_id: u8, length: usize },
+    // a chunk size, whose own message has type 1 and stream 0
+    Size(u32),
+}
 
 // A call of the encoder, and what is to become of it.
 #[derive(Clone, Copy)]
 pub struct Call {
-    pub type_id: u8,
-    pub stream_id: u32,
-    pub time: u32,
-    // how many bytes of payload
-    pub length: usize,
-    pub can_be_dropped: bool,
+    request: Request,
+    time: u32,
+    can_be_dropped: bool,
+    // how many bytes of output are lent
+    lent: usize,
     // whether its packet is kept
     pub is_kept: bool,
-    // a size change, and to what
-    pub is_size: bool,
-    pub size: u32,
-    // how many bytes of output are lent
-    pub lent: usize,
-    // the number of the refusal that is expected; 0 for none
-    pub refusal: u8,
+    // the refusal that is expected
+    pub refusal: Option<PacketError>,
 }
-
-// How many calls there are.
-pub const CALLS: usize = 15;
 
 // How many bytes of output are lent to a call, where nothing else is said.
 const LENT: usize = 512;
 
 impl Call {
-    // A message of this type on stream 1.
-    fn message(type_id: u8, time: u32, length: usize) -> Self {
+    fn new(request: Request, time: u32) -> Self {
         Call {
-            type_id,
-            stream_id: 1,
+            request,
             time,
-            length,
             can_be_dropped: false,
-            is_kept: true,
-            is_size: false,
-            size: 0,
             lent: LENT,
-            refusal: 0,
+            is_kept: true,
+            refusal: None,
         }
     }
 
     fn picture(time: u32, length: usize) -> Self {
-        Call::message(9, time, length)
+        Call::new(Request::Message { type_id: 9, length }, time)
     }
 
     fn door(time: u32, length: usize) -> Self {
-        Call::message(18, time, length)
+        Call::new(
+            Request::Message {
+                type_id: 18,
+                length,
+            },
+            time,
+        )
     }
 
     fn sound(time: u32, length: usize) -> Self {
-        Call::message(8, time, length)
+        Call::new(Request::Message { type_id: 8, length }, time)
     }
 
-    // A size change, whose own message has type 1 and stream 0.
     fn size(size: u32, time: u32) -> Self {
-        let mut call = Call::message(1, time, 4);
-        call.stream_id = 0;
-        call.is_size = true;
-        call.size = size;
-        call
+        Call::new(Request::Size(size), time)
     }
 
-    fn droppable(mut self) -> Self {
-        self.can_be_dropped = true;
-        self
+    fn droppable(self) -> Self {
+        Call {
+            can_be_dropped: true,
+            ..self
+        }
     }
 
-    fn left_out(mut self) -> Self {
-        self.is_kept = false;
-        self
+    fn left_out(self) -> Self {
+        Call {
+            is_kept: false,
+            ..self
+        }
     }
 
-    fn lent(mut self, lent: usize) -> Self {
-        self.lent = lent;
-        self
+    fn lent(self, lent: usize) -> Self {
+        Call { lent, ..self }
     }
 
-    fn refused(mut self, number: u8) -> Self {
-        self.refusal = number;
-        self
+    fn refused(self, refusal: PacketError) -> Self {
+        Call {
+            refusal: Some(refusal),
+            ..self
+        }
+    }
+
+    // The payload of its message, at the start of what is lent; `place` is its place in the plan.
+    pub fn payload<'a>(&self, place: usize, bytes: &'a mut [u8]) -> &'a [u8] {
+        match self.request {
+            Request::Message { length, .. } => {
+                for (i, byte) in bytes.iter_mut().enumerate() {
+                    *byte = ((place % 16 * 31 + i % 256) % 256) as u8;
+                }
+                part(bytes, 0, length)
+            }
+            Request::Size(size) => {
+                for (byte, of_size) in bytes.iter_mut().zip(size.to_be_bytes()) {
+                    *byte = of_size;
+                }
+                part(bytes, 0, 4)
+            }
+        }
+    }
+
+    // Makes the call with the first bytes of the output, as many as it lends, or with all where there are fewer.
+    pub fn make(&self, encoder: ChunkSerializer, payload: &[u8], output: &mut [u8]) -> Serialized {
+        let time = RtmpTimestamp::new(self.time);
+        let lent = self.lent.min(output.len());
+        let output = &mut output[..lent];
+        match self.request {
+            Request::Message { type_id, .. } => {
+                encoder.serialize(
+                    type_id,
+                    1,
+                    time,
+                    payload,
+                    false,
+                    self.can_be_dropped,
+                    output,
+                )
+            }
+            Request::Size(size) => encoder.set_max_chunk_size(size, time, output),
+        }
+    }
+
+    // Whether a message's numbers are those of the call.
+    pub fn is_of(&self, message: Message) -> bool {
+        let (type_id, stream_id) = match self.request {
+            Request::Message { type_id, .. } => (u32::from(type_id), 1),
+            Request::Size(_) => (1, 0),
+        };
+        message.type_id == type_id
+            && message.stream_id == stream_id
+            && message.timestamp.value == self.time
     }
 }
 
-// The call at `place`, counted from 0; the last one from there on.
-pub fn call_at(place: usize) -> Call {
-    match place {
-        0 => Call::picture(0, 200),
-        1 => Call::picture(40, 0).refused(1),
-        2 => Call::picture(40, 200),
-        3 => Call::door(60, 5),
-        4 => Call::picture(80, 200).droppable().left_out(),
-        5 => Call::picture(120, 200),
-        6 => Call::picture(240, 200),
-        7 => Call::size(0, 250).refused(3),
-        8 => Call::picture(280, 200).lent(100).refused(5),
-        9 => Call::size(50, 280),
-        10 => Call::picture(280, 200),
-        11 => Call::door(16777300, 60),
-        12 => Call::sound(16777300, 60),
-        13 => Call::picture(320, 30).droppable(),
-        _ => Call::size(2147483648, 320).refused(4),
+impl fmt::Display for Call {
+    fn fmt<W: fmt::Write>(&self, f: &mut fmt::Formatter<W>) -> fmt::Result {
+        match self.request {
+            Request::Message { type_id, .. } => write!(f, "type {type_id} at {}", self.time),
+            Request::Size(size) => write!(f, "size {size} at {}", self.time),
+        }
     }
 }
 
-// The byte at `i` of the payload of the message of the call at `place`.
-fn payload_byte(place: usize, i: usize) -> u8 {
-    ((place % 16 * 31 + i % 256) % 256) as u8
-}
-
-// Fills `payload` with the bytes of the message of the call at `place`.
-pub fn fill(place: usize, payload: &mut [u8]) {
-    let mut i = 0;
-    while i < payload.len() {
-        payload[i] = payload_byte(place, i);
-        i += 1;
-    }
+pub fn plan() -> [Call; 15] {
+    [
+        Call::picture(0, 200),
+        Call::picture(40, 0).refused(PacketError::NoPayload),
+        Call::picture(40, 200),
+        Call::door(60, 5),
+        Call::picture(80, 200).droppable().left_out(),
+        Call::picture(120, 200),
+        Call::picture(240, 200),
+        Call::size(0, 250).refused(PacketError::ChunkSizeZero),
+        Call::picture(280, 200)
+            .lent(100)
+            .refused(PacketError::OutputTooShort),
+        Call::size(50, 280),
+        Call::picture(280, 200),
+        Call::door(16777300, 60),
+        Call::sound(16777300, 60),
+        Call::picture(320, 30).droppable(),
+        Call::size(2147483648, 320).refused(PacketError::InvalidMaxChunkSize),
+    ]
 }

@@ -1,7 +1,5 @@
 -- The row is counted, and six stores in a row are the row put at its place.
-use Prim.Native.Nat.{suc, ◌+◌, ◌*◌}
-use mathlib.Core.Path.{◌≡◌}
-use native.Mathlib.Omega.{arith}
+use Rattle.std.proofs.Common.{◌≡◌, suc, ◌+◌, ◌*◌, arith}
 use Rattle.byte_machine.specs.Rows.{put_row}
 use Rattle.held.proofs.table.put_row.Goals as goal
 

@@ -1,8 +1,5 @@
 -- What is answered at once leaves the decoder, in the numbers that stand for it; else the run.
-use Prim.Native.Nat.{◌≤◌}
-use mathlib.Core.Path.{sym, ap, subst, ◌∙◌}
-use native.Mathlib.Omega.{arith}
-use lib.ListN.{get_or, length}
+use Rattle.std.proofs.Common.{◌≤◌, sym, ap, subst, ◌∙◌, arith, get_or, length}
 use Rattle.decoding.specs.Answer.{Listed, more}
 use Rattle.decoding.specs.Call.{Outcome, next, outcome}
 use Rattle.decoding.proofs.Runs.{next_closed, next_runs, next_short, run_end}
@@ -20,20 +17,20 @@ returns-then-closed-ne0 c =
     (next_closed d a.input.now a.payload.now c.if-closed-ne0.true ∙ ap (λ (x : Listed). outcome x d a.payload.now) (sym c.refused.ensures))
     c.renew.ensures
 
-pub returns-then-payload-wide : goal.returns-then-payload-wide
-returns-then-payload-wide c =
+pub returns-then-payload-held : goal.returns-then-payload-held
+returns-then-payload-held c =
     let a = c.args in
     let d = decode a.held.now a.rows.now in
-    lent (next d a.input.now a.payload.now) (answer_of c.refused-then-payload-wide.result) a.held.now a.rows.now a.payload.now c.renew-then-payload-wide.new.held
-    (next_short d a.input.now a.payload.now c.if-closed-ne0.false (omega (arith, c.if-payload-wide.true, c.wide.ensures))
-    ∙ ap (λ (x : Listed). outcome x d a.payload.now) (sym c.refused-then-payload-wide.ensures))
-    c.renew-then-payload-wide.ensures
+    lent (next d a.input.now a.payload.now) (answer_of c.refused-then-payload-held.result) a.held.now a.rows.now a.payload.now c.renew-then-payload-held.new.held
+    (next_short d a.input.now a.payload.now c.if-closed-ne0.false (omega (arith, c.if-payload-held.true))
+    ∙ ap (λ (x : Listed). outcome x d a.payload.now) (sym c.refused-then-payload-held.ensures))
+    c.renew-then-payload-held.ensures
 
 pub returns-then-input-eq0 : goal.returns-then-input-eq0
 returns-then-input-eq0 c =
     let a = c.args in
     let d = decode a.held.now a.rows.now in
-    let room : get_or a.held.now 0 0 ≤ length a.payload.now = omega (arith, c.if-payload-wide.false, c.wide.ensures) in
+    let room : get_or a.held.now 0 0 ≤ length a.payload.now = omega (arith, c.if-payload-held.false) in
     lent (next d a.input.now a.payload.now) (more 0) a.held.now a.rows.now a.payload.now c.renew-then-input-eq0.new.held
     (next_runs d a.input.now a.payload.now c.if-closed-ne0.false room
     ∙ run_end d a.input.now a.payload.now 0 0 (omega (arith, c.if-input-eq0.true)))
@@ -44,7 +41,7 @@ returns c =
     let a = c.args in
     let d = decode a.held.now a.rows.now in
     let t = c.turns in
-    let room : get_or a.held.now 0 0 ≤ length a.payload.now = omega (arith, c.if-payload-wide.false, c.wide.ensures) in
+    let room : get_or a.held.now 0 0 ≤ length a.payload.now = omega (arith, c.if-payload-held.false) in
     subst (λ (o : Outcome). Lent (answer_of t.result) t.new.held t.new.rows t.new.payload o)
     (sym (next_runs d a.input.now a.payload.now c.if-closed-ne0.false room))
     t.ensures

@@ -1,6 +1,5 @@
 -- The lines of the table in their order, to a decoder of any table.
-use mathlib.Core.Path.{sym, ◌∙◌}
-use lib.ListN.{get_or}
+use Rattle.std.proofs.Common.{sym, ◌∙◌, get_or}
 use Rattle.held.specs.Numbers.{decode}
 use Rattle.in_place.specs.Answer.{size_of}
 use Rattle.in_place.proofs.Sizes.{says_closed, says_inside, says_large, says_none, says_taken, told_refused, told_taken}

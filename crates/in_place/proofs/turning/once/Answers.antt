@@ -1,9 +1,5 @@
 -- A stretch of payload where one may come, and the step of one byte where not.
-use Prim.Native.Nat.{ℕ}
-use mathlib.Core.Path.{sym, ap, ◌∙◌}
-use mathlib.Core.List.{List}
-use native.Mathlib.Omega.{arith}
-use lib.ListN.{drop, get_or}
+use Rattle.std.proofs.Common.{ℕ, sym, ap, ◌∙◌, List, arith, drop, get_or}
 use Rattle.decoding.specs.Call.{run}
 use Rattle.decoding.proofs.Runs.{byte_at}
 use Rattle.header_in_place.specs.Byte.{step_in}
@@ -26,7 +22,7 @@ returns c =
     let rows = c.args.rows.now in
     let input = c.args.input.now in
     let payload = c.args.payload.now in
-    let taken = c.take_byte-event in
+    let taken = c.take_byte in
     let not-paid = sym c.may_pay.ensures ∙ c.if-may_pay.false in
     turned (record { event = taken.result; used = 1 }) held rows input payload taken.new.held taken.new.rows payload (step_in (decode held rows) (get_or input 0 0)) taken.ensures
     (left_means taken.result held rows taken.new.held taken.new.rows (get_or input 0 0) (omega (arith, c.type_inv.input 0)) taken.ensures)

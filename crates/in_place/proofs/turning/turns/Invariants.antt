@@ -1,9 +1,6 @@
 -- The invariant says nothing of the past: the rest of the run is the whole run; and after a turn the numbers are those that
 -- stand for what they mean.
-use Prim.Native.Nat.{◌-◌, ◌≤◌}
-use mathlib.Core.Path.{◌≡◌}
-use mathlib.Core.Logic.{◌≢◌}
-use lib.ListN.{drop, get_or, length}
+use Rattle.std.proofs.Common.{◌-◌, ◌≤◌, ◌≡◌, ◌≢◌, drop, get_or, length}
 use Rattle.decoding.specs.Call.{run}
 use Rattle.held.specs.Numbers.{again, decode}
 use Rattle.in_place.proofs.turning.turns.Given as goal

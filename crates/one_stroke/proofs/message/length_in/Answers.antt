@@ -1,7 +1,6 @@
 -- A number of three bytes needs no wrapping.
+use Rattle.std.proofs.Common.{arith, ◌∙◌}
 use Rattle.fields.proofs.Lists.{part_fits}
-use native.Mathlib.Omega.{arith}
-use mathlib.Core.Path.{◌∙◌}
 use Rattle.one_stroke.proofs.message.length_in.Goals as goal
 
 pub returns : goal.returns

@@ -1,8 +1,7 @@
 -- A number of four bytes needs no wrapping.
+use Rattle.std.proofs.Common.{arith, ap, ◌∙◌}
 use Rattle.fields.specs.Endian.{swapped}
 use Rattle.fields.proofs.Lists.{part_fits}
-use native.Mathlib.Omega.{arith}
-use mathlib.Core.Path.{ap, ◌∙◌}
 use Rattle.one_stroke.proofs.message.stream_in.Goals as goal
 
 pub returns : goal.returns

@@ -1,10 +1,6 @@
 -- One byte stored at a place is a run of one; beyond the buffer nothing is stored.
-use Prim.Native.Nat.{ℕ}
-use mathlib.Core.Path.{◌≡◌, sym, ap, ◌∙◌}
-use mathlib.Core.List.{List, [], ◌∷◌}
-use native.Mathlib.Omega.{arith}
-use lib.ListN.{get_or, drop_of_length-le}
-use lib.Seq.{sets}
+use Rattle.std.proofs.Common.{ℕ, ◌≡◌, sym, ap, ◌∙◌, List, [], ◌∷◌, arith, get_or, drop_of_length-le}
+use Rattle.std.proofs.lemmas.List.Edits.{sets}
 use Rattle.fields.proofs.Lists.{stored_fits, stored_none}
 use Rattle.decoding.proofs.Runs.{byte_at}
 use Rattle.one_stroke.proofs.piece.put_piece.Goals as goal

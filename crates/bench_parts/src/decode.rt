@@ -1,0 +1,38 @@
+// A decoder's way through an input.
+use crate::tally::Tally;
+use in_place::Answer;
+use test_calls::used_of;
+
+// Offers all of `input` to calls, piece by piece; what a call left unread is offered again. A piece of 0 bytes is all that is left.
+pub fn decode_all<F: FnMut(&[u8], &mut [u8]) -> Answer>(
+    input: &[u8],
+    piece: usize,
+    every: usize,
+    payload: &mut [u8],
+    mut next_message: F,
+) -> Tally
+    requires { F.IsAlwaysCallable next_message }
+{
+    let mut tally = Tally::default();
+    let mut unread = input;
+    // how many bytes of the piece are unread
+    let mut left = 0;
+    while !unread.is_empty() {
+        if left == 0 {
+            left = if piece == 0 {
+                unread.len()
+            } else {
+                piece.min(unread.len())
+            };
+        }
+        let answer = next_message(&unread[..left], payload);
+        tally.answer(answer, payload, every);
+        let used = used_of(answer);
+        if used == 0 || left < used {
+            break;
+        }
+        unread = &unread[used..];
+        left -= used;
+    }
+    tally
+}
