@@ -1,6 +1,6 @@
 // The table of 64 header rows, lent as numbers: six a row, and after them how many rows are used, from the first on.
 ghost use Rattle.std.specs.Prelude.{◌≡◌, ◌<◌, IfSome};
-ghost use Rattle.byte_machine.specs.Rows.{counted, find as Rows·find, free, is_own, put_at, put_row, row_at, row_count, used as Rows·used};
+ghost use Rattle.byte_machine.specs.Rows.{counted, find as rows_find, free, is_own, put_at, put_row, row_at, row_count, used as rows_used};
 ghost use Rattle.held.specs.Numbers.{row_from, held_row_of, place_in};
 
 use crate::numbers::HeldRow;
@@ -14,14 +14,14 @@ const COUNT: usize = 384;
 
 // How many rows are used; a larger count means all.
 fn used(rows: &[u32; TABLE_LENGTH]) -> usize
-    ensures { result ≡ Rows·used rows.now }
+    ensures { result ≡ rows_used rows.now }
 {
     rows[COUNT].min(64) as usize
 }
 
 // The row of this id, searched from the newest row back.
 pub fn find(rows: &[u32; TABLE_LENGTH], id: u32) -> Option<usize>
-    ensures found { place_in result ≡ Rows·find rows.now id }
+    ensures found { place_in result ≡ rows_find rows.now id }
     ensures within { IfSome result (λ i. i < row_count) }
 {
     for i in (0..used(rows)).rev() {

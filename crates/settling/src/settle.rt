@@ -138,6 +138,7 @@ fn stage_at(field: HeaderField, lacks: u32) -> Stage
 }
 
 // A field comes next, or is passed over where the format does not have it: then what is after it comes.
+// Kept: a function a field below, as one that calls itself by the field took 463 ns and not 226 for 16 bytes singly (bar 1.2).
 fn field_or<F: FnOnce(Held) -> Result<Done, ChunkRefusal>>(
     h: Held,
     field: HeaderField,
