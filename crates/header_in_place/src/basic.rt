@@ -16,6 +16,7 @@ use held::{
 use settling::{check_basic, timestamp_next};
 
 // The format that a first byte says.
+// Kept: a twin of `get_format`, whose byte this is not, as any number may lie in what is lent (`named` in byte_machine's specs/Step.antt).
 #[tactic(auto, unfolding(chunk_header::specs::Table::format_of))]
 fn format_in(first: u32) -> ChunkHeaderFormat
     ensures { result ≡ format_of first }

@@ -19,6 +19,7 @@ pub enum WriteError {
 }
 
 impl ReadError {
+    // Kept: each enum of refusals casts its own number, here and in other crates: a trait would take an impl for each all the same.
     pub fn number(self) -> u32
         ensures { read_answer (Err self) ≡ refused result }
     {

@@ -16,6 +16,7 @@ pub enum PacketError {
 }
 
 impl PacketError {
+    // Kept: each enum of refusals casts its own number, here and in other crates: a trait would take an impl for each all the same.
     pub fn number(self) -> u32
         ensures { result ≡ number_of self }
     {

@@ -22,6 +22,7 @@ pub enum WriteError {
 }
 
 impl ReadError {
+    // Kept: each enum of refusals casts its own number, here and in other crates: a trait would take an impl for each all the same.
     pub fn number(self) -> u32
         ensures { number_in (read_answer (Err self)) ≡ result }
     {
