@@ -8,7 +8,7 @@ use Rattle.held.specs.declared.done.ChunkRefusal.{ChunkRefusal}
 use Rattle.held.specs.declared.done.Done.{Done}
 use Rattle.held.specs.declared.numbers.Held.{Held}
 use Rattle.held.specs.Done.{Beside, done_of, meant_by, refusal_number, shut_with, told}
-use Rattle.held.specs.Numbers.{decode, encode, held_in, meant, numbers_of, place_in, row_from, setting_in}
+use Rattle.held.specs.Numbers.{decode, encode, held_in, meant, numbers_of, row_from, setting_in}
 use Rattle.header_in_place.specs.Byte.{Left}
 
 abbrev step : Reader → Event → ℕ → Stepped
@@ -28,7 +28,7 @@ module _ (h : Held) (rows : List ℕ) (r : Reader) where
     -- any other step is stored as it is
     kept_at : (settled : Event) (p : ℕ) → meant_by d ≡ record { setting = setting_in h; closed = h.closed; step = step r settled p }
         → is_refusal settled ≡ false → closes settled h.closed ≡ h.closed
-        → Left (Ok d.event) (numbers_of d.held) (put_at rows (place_in d.place) (row_from d.held.header)) (meant h rows) (step r settled p)
+        → Left (Ok d.event) (numbers_of d.held) (put_at rows d.place (row_from d.held.header)) (meant h rows) (step r settled p)
     unfolding after
     kept_at settled p m n c = record {
       event_is = ap (λ (b : Beside). b.step.event) m;
@@ -37,7 +37,7 @@ module _ (h : Held) (rows : List ℕ) (r : Reader) where
     }
 
     left_kept : (settled : Event) (p : ℕ) → told (Ok d) ≡ done_of h (step r settled p)
-        → Left (Ok d.event) (numbers_of d.held) (put_at rows (place_in d.place) (row_from d.held.header)) (meant h rows) (step r settled p)
+        → Left (Ok d.event) (numbers_of d.held) (put_at rows d.place (row_from d.held.header)) (meant h rows) (step r settled p)
     left_kept Go p q = kept_at Go p (cc) refl refl
     left_kept Chunk p q = kept_at Chunk p (cc) refl refl
     left_kept Message p q = kept_at Message p (cc) refl refl
@@ -53,8 +53,8 @@ module _ (held rows : List ℕ) (h : Held) (e : h ≡ held_in held) (f : Decoder
       (left_refused h rows s.reader k s.event s.place q)
 
   pub kept_lent : (d : Done) → told (Ok d) ≡ done_of h (f (meant h rows))
-      → Left (Ok d.event) (numbers_of d.held) (put_at rows (place_in d.place) (row_from d.held.header)) (decode held rows) (f (decode held rows))
+      → Left (Ok d.event) (numbers_of d.held) (put_at rows d.place (row_from d.held.header)) (decode held rows) (f (decode held rows))
   kept_lent d q =
       let s = f (meant h rows) in
-      subst (λ (x : Held). Left (Ok d.event) (numbers_of d.held) (put_at rows (place_in d.place) (row_from d.held.header)) (meant x rows) (f (meant x rows))) e
+      subst (λ (x : Held). Left (Ok d.event) (numbers_of d.held) (put_at rows d.place (row_from d.held.header)) (meant x rows) (f (meant x rows))) e
       (left_kept h rows s.reader d s.event s.place q)

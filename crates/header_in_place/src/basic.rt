@@ -10,8 +10,8 @@ ghost use Rattle.held.specs.Stages.{stage_of};
 
 use chunk_header::ChunkHeaderFormat;
 use held::{
-    ChunkRefusal, Done, Event, Held, HeldRow, ROWS, Stage, TABLE_LENGTH, claimed, find, first_free,
-    goes, row_in,
+    ChunkRefusal, Done, Event, Held, HeldRow, NOWHERE, Stage, TABLE_LENGTH, claimed, find,
+    first_free, goes, row_in,
 };
 use settling::{check_basic, timestamp_next};
 
@@ -48,13 +48,14 @@ fn claims(h: Held, format: ChunkHeaderFormat, id: u32, free: Option<u32>) -> Don
     ensures { Ok (meant_by result) ≡ done_of h (machine_claims (reader_from h) format id (place_in free)) }
 {
     let row = claimed(id);
+    let place = free.unwrap_or(NOWHERE);
     let held = Held {
         stage: Stage::InitialTimestamp {
             gathered: 0,
             lacks: 3,
         },
         format,
-        place: free.unwrap_or(ROWS as u32),
+        place,
         left: 0,
         before: row,
         header: row,
@@ -63,7 +64,7 @@ fn claims(h: Held, format: ChunkHeaderFormat, id: u32, free: Option<u32>) -> Don
     Done {
         held,
         event: Event::Go,
-        place: free,
+        place,
     }
 }
 

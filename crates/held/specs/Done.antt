@@ -9,7 +9,7 @@ use Rattle.held.specs.declared.done.Done.{Done}
 use Rattle.held.specs.declared.done.Event.{Event as HeldEvent}
 use Rattle.held.specs.declared.done.Event.TheVariants.{Go as Goes, Chunk as EndsChunk, Message as EndsMessage}
 use Rattle.held.specs.declared.numbers.Held.{Held}
-use Rattle.held.specs.Numbers.{place_in, reader_from, setting_in}
+use Rattle.held.specs.Numbers.{reader_from, setting_in}
 
 -- the number of a refusal
 abbrev pub refusal_number : ChunkRefusal → ℕ
@@ -46,7 +46,7 @@ abbrev pub meant_by : Done → Beside
 meant_by d = record {
   setting = setting_in d.held;
   closed = d.held.closed;
-  step = record { reader = reader_from d.held; event = event_of d.event; place = place_in d.place };
+  step = record { reader = reader_from d.held; event = event_of d.event; place = d.place };
 }
 
 -- what a byte did; of a refusal only the number is kept

@@ -7,6 +7,7 @@ ghost use Rattle.held.specs.Stages.{stage_of};
 
 use crate::numbers::Held;
 use crate::stage::Stage;
+use crate::table::NOWHERE;
 
 // What a byte settled: nothing, the end of a chunk, or that of a message.
 #[derive(Clone, Copy, Debug, PartialEq, Eq)]
@@ -37,13 +38,13 @@ impl ChunkRefusal {
     }
 }
 
-// What a byte that is not refused does: the decoder after it, what it settled, and the place where its header becomes a row, if
-// it does.
+// What a byte that is not refused does: the decoder after it, what it settled, and the place where its header becomes a row.
 #[derive(Clone, Copy, Debug, PartialEq, Eq)]
 pub struct Done {
     pub held: Held,
     pub event: Event,
-    pub place: Option<u32>,
+    // Kept: `NOWHERE` and no Option, as any place may be lent, and `meant_by` in specs/Done.antt has one answer for each number
+    pub place: u32,
 }
 
 // A byte that only goes on, to another stage.
@@ -53,6 +54,6 @@ pub fn goes(h: Held, stage: Stage) -> Done
     Done {
         held: Held { stage, ..h },
         event: Event::Go,
-        place: None,
+        place: NOWHERE,
     }
 }

@@ -10,4 +10,4 @@ mod table;
 pub use crate::done::{ChunkRefusal, Done, Event, goes};
 pub use crate::numbers::{Held, HeldRow, claimed, format_from, held_in, numbers_of, renew, shut};
 pub use crate::stage::Stage;
-pub use crate::table::{ROWS, TABLE_LENGTH, find, first_free, is_own, put_at, row_in};
+pub use crate::table::{NOWHERE, ROWS, TABLE_LENGTH, find, first_free, is_own, put_at, row_in};

@@ -7,6 +7,9 @@ use crate::numbers::HeldRow;
 
 pub const ROWS: usize = 64;
 
+// A place that the table does not have.
+pub const NOWHERE: u32 = 64;
+
 // How many numbers the table has, and where the count is.
 pub const TABLE_LENGTH: usize = 385;
 
@@ -90,12 +93,11 @@ fn put_row(rows: &mut [u32; TABLE_LENGTH], i: usize, row: HeldRow)
     rows[at + 5] = row.stream;
 }
 
-// The same, where there is a place and the table has it.
-pub fn put_at(rows: &mut [u32; TABLE_LENGTH], place: Option<u32>, row: HeldRow)
-    ensures { rows.new ≡ put_at rows.old (place_in place) (row_from row) }
+// The same, where the table has that place.
+pub fn put_at(rows: &mut [u32; TABLE_LENGTH], place: u32, row: HeldRow)
+    ensures { rows.new ≡ put_at rows.old place (row_from row) }
 {
-    match place {
-        Some(place) if place < 64 => put_row(rows, place as usize, row),
-        _ => {}
+    if place < 64 {
+        put_row(rows, place as usize, row);
     }
 }

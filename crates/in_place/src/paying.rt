@@ -7,7 +7,8 @@ ghost use Rattle.in_place.specs.Turn.{Ready, Turned, may_pay};
 
 use fields::put_bytes;
 use held::{
-    ChunkRefusal, Done, Event, Held, Stage, TABLE_LENGTH, held_in, numbers_of, places, put_at,
+    ChunkRefusal, Done, Event, Held, NOWHERE, Stage, TABLE_LENGTH, held_in, numbers_of, places,
+    put_at,
 };
 
 // What a turn settled, or why it is refused, and how many bytes it used.
@@ -42,10 +43,10 @@ fn landed(h: Held, n: u32) -> Done
         return Done {
             held: Held { got, left, ..h },
             event: Event::Go,
-            place: None,
+            place: NOWHERE,
         };
     }
-    let place = Some(h.place);
+    let place = h.place;
     let stage = Stage::Csid;
     if got < h.header.length {
         let id = h.header.id;

@@ -1,4 +1,4 @@
-// Why no decoder was made, or a size was not taken.
+// Why a call is refused that is not refused by its bytes.
 use std::error::Error;
 use std::fmt;
 
@@ -9,12 +9,16 @@ pub struct Refusal {
     pub number: u32,
 }
 
-// Those that are of a call alone.
+// Those that no byte settles.
 impl Refusal {
     pub const CHUNK_SIZE_ZERO: Refusal = Refusal { number: 3 };
+
     pub const CHUNK_SIZE_TOO_LARGE: Refusal = Refusal { number: 4 };
+
     pub const ROOM_OUTSIDE_LIMITS: Refusal = Refusal { number: 6 };
+
     pub const BUFFER_TOO_SHORT: Refusal = Refusal { number: 7 };
+
     pub const INSIDE_MESSAGE: Refusal = Refusal { number: 8 };
 }
 

@@ -35,7 +35,7 @@ pub fn make(held: &mut [u32; 24], rows: &mut [u32; TABLE_LENGTH], room: u32) -> 
     ensures { LentSize (size_of result) held.new rows.new (made room) }
 {
     if room == 0 || LARGEST_ROOM < room {
-        fresh(held, rows, room, 6);
+        fresh(held, rows, room, Refusal::ROOM_OUTSIDE_LIMITS.number);
         return Err(Refusal::ROOM_OUTSIDE_LIMITS);
     }
     fresh(held, rows, room, 0);

@@ -169,7 +169,7 @@ pub fn at_once(
         before,
         header,
     });
-    put_at(rows, Some(place), header);
+    put_at(rows, place, header);
     put_bytes(&input[start..end], payload, 0);
     Some(end)
 }

@@ -12,7 +12,7 @@ ghost use Rattle.settling.specs.Opened.{opened_to};
 
 use crate::refusals::is_full;
 use chunk_header::{ChunkHeaderFormat, HeaderField, MAX_INITIAL_TIMESTAMP, field_length};
-use held::{ChunkRefusal, Done, Event, Held, HeldRow, Stage, goes};
+use held::{ChunkRefusal, Done, Event, Held, HeldRow, NOWHERE, Stage, goes};
 
 // The payload of a chunk. A message of no bytes ends here.
 #[tactic(auto, unfolding(byte_machine::specs::Header::opens))]
@@ -30,7 +30,7 @@ fn opened(h: Held, time: u32, got: u32) -> Done
                 ..h
             },
             event: Event::Message,
-            place: Some(h.place),
+            place: h.place,
         };
     }
     let left = h.size.min(header.length.saturating_sub(got));
@@ -43,7 +43,7 @@ fn opened(h: Held, time: u32, got: u32) -> Done
             ..h
         },
         event: Event::Go,
-        place: None,
+        place: NOWHERE,
     }
 }
 
