@@ -1,3 +1,4 @@
 pub mod Body
 pub mod Answer
 pub mod Reading
+pub mod Code

@@ -1,5 +1,5 @@
 -- What a body means, and when it is refused (document 01, refusals 15 and 16). Bytes after the body are ignored.
-use Rattle.std.specs.Prelude.{ℕ, zero, suc, ◌+◌, ◌*◌, Bool, not, cond, ◌&&◌, ◌||◌, List, [], ◌∷◌, ltb, eqb, length, take, drop, Option, Some, None}
+use Rattle.std.specs.Prelude.{ℕ, zero, suc, ◌+◌, ◌*◌, Bool, not, cond, ◌&&◌, ◌||◌, List, [], ◌∷◌, ltb, eqb, length, take, drop}
 use Rattle.fields.specs.Endian.{number}
 use Rattle.fields.specs.Cases.{◌when◌, among, first}
 use Rattle.user_control.specs.Answer.{Answer, event, refused}
@@ -24,10 +24,6 @@ count c = cond (eqb c 3) 2 1
 -- "so 6 bytes, or 10 for code 3"
 abbrev pub body_length : (code : ℕ) → ℕ
 body_length c = 2 + 4 * count c
-
--- the table of body lengths by code: none where no event has the code
-unfoldable pub length_of : (code : ℕ) → Option ℕ
-length_of c = cond (known c) (Some (body_length c)) None
 
 -- under 2 bytes, or a known code with fewer bytes than it needs
 abbrev pub short : List ℕ → Bool

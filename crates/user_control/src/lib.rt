@@ -7,10 +7,12 @@ ghost use Rattle.user_control.specs.Answer.{read_answer, write_answer};
 ghost use Rattle.user_control.specs.Body.{body};
 ghost use Rattle.user_control.specs.Reading.{reading};
 
+mod code;
 mod error;
 mod length;
 mod write;
 
+use crate::code::Code;
 pub use crate::error::{ReadError, WriteError};
 use crate::length::body_length;
 use crate::write::write_numbers;
@@ -38,28 +40,26 @@ pub fn deserialize(bytes: &[u8]) -> Result<UserControlEvent, ReadError>
     if bytes.len() < 2 {
         return Err(ReadError::BodyTooShort);
     }
-    let code = number_at(bytes, 0, 2);
-    let needed = body_length(code).ok_or(ReadError::UnknownCode)?;
-    if bytes.len() < needed {
+    let code = Code::try_from(number_at(bytes, 0, 2))?;
+    if bytes.len() < body_length(code) {
         return Err(ReadError::BodyTooShort);
     }
     let stream_id = number_at(bytes, 2, 4);
     let timestamp = RtmpTimestamp::new(stream_id);
     let buffer_length = number_at(bytes, 6, 4);
     match code {
-        0 => Ok(UserControlEvent::StreamBegin { stream_id }),
-        1 => Ok(UserControlEvent::StreamEof { stream_id }),
-        2 => Ok(UserControlEvent::StreamDry { stream_id }),
-        3 => Ok(UserControlEvent::SetBufferLength {
+        Code::StreamBegin => Ok(UserControlEvent::StreamBegin { stream_id }),
+        Code::StreamEof => Ok(UserControlEvent::StreamEof { stream_id }),
+        Code::StreamDry => Ok(UserControlEvent::StreamDry { stream_id }),
+        Code::SetBufferLength => Ok(UserControlEvent::SetBufferLength {
             stream_id,
             buffer_length,
         }),
-        4 => Ok(UserControlEvent::StreamIsRecorded { stream_id }),
-        6 => Ok(UserControlEvent::PingRequest { timestamp }),
-        7 => Ok(UserControlEvent::PingResponse { timestamp }),
-        31 => Ok(UserControlEvent::BufferEmpty { stream_id }),
-        32 => Ok(UserControlEvent::BufferReady { stream_id }),
-        _ => unreachable!(),
+        Code::StreamIsRecorded => Ok(UserControlEvent::StreamIsRecorded { stream_id }),
+        Code::PingRequest => Ok(UserControlEvent::PingRequest { timestamp }),
+        Code::PingResponse => Ok(UserControlEvent::PingResponse { timestamp }),
+        Code::BufferEmpty => Ok(UserControlEvent::BufferEmpty { stream_id }),
+        Code::BufferReady => Ok(UserControlEvent::BufferReady { stream_id }),
     }
 }
 
@@ -67,22 +67,23 @@ pub fn deserialize(bytes: &[u8]) -> Result<UserControlEvent, ReadError>
 pub fn serialize(event: UserControlEvent, output: &mut [u8]) -> Result<usize, WriteError>
     ensures { outcome (write_answer result) output.new ≡ writing (body event) output.old }
 {
+    let code = event.code();
     match event {
-        UserControlEvent::StreamBegin { stream_id } => write_numbers(0, &[stream_id], output),
-        UserControlEvent::StreamEof { stream_id } => write_numbers(1, &[stream_id], output),
-        UserControlEvent::StreamDry { stream_id } => write_numbers(2, &[stream_id], output),
         UserControlEvent::SetBufferLength {
             stream_id,
             buffer_length,
-        } => write_numbers(3, &[stream_id, buffer_length], output),
-        UserControlEvent::StreamIsRecorded { stream_id } => write_numbers(4, &[stream_id], output),
-        UserControlEvent::PingRequest { timestamp } => write_numbers(6, &[timestamp.value], output),
-        UserControlEvent::PingResponse { timestamp } => write_numbers(
-            7,
+        } => write_numbers(code, &[stream_id, buffer_length], output),
+        UserControlEvent::PingRequest { timestamp }
+        | UserControlEvent::PingResponse { timestamp } => write_numbers(
+            code,
             &[timestamp.value],
             output,
         ),
-        UserControlEvent::BufferEmpty { stream_id } => write_numbers(31, &[stream_id], output),
-        UserControlEvent::BufferReady { stream_id } => write_numbers(32, &[stream_id], output),
+        UserControlEvent::StreamBegin { stream_id }
+        | UserControlEvent::StreamEof { stream_id }
+        | UserControlEvent::StreamDry { stream_id }
+        | UserControlEvent::StreamIsRecorded { stream_id }
+        | UserControlEvent::BufferEmpty { stream_id }
+        | UserControlEvent::BufferReady { stream_id } => write_numbers(code, &[stream_id], output),
     }
 }

@@ -1,22 +1,23 @@
--- The table is what the rule gives at 0 to 32, which is computed, and past it no code is known.
-use Rattle.std.proofs.Common.{sym, ap, ◌∙◌, Some, arith}
-use Rattle.fields.proofs.Table.{get_d_tabulate}
-use Rattle.user_control.specs.Reading.{length_of, known, count}
-use Rattle.user_control.proofs.Codes.{entry, entry_none, entry_some, unknown_beyond}
+-- The table has what the rule gives at each code's number.
+use Rattle.std.proofs.Common.{◌≡◌, refl, ap, ◌∙◌, slice_index_or}
+use Rattle.user_control.specs.declared.code.Code.{Code}
+use Rattle.user_control.specs.declared.code.Code.TheVariants.{StreamBegin, StreamEof, StreamDry, SetBufferLength, StreamIsRecorded, PingRequest, PingResponse, BufferEmpty, BufferReady}
+use Rattle.user_control.specs.declared.length.TheConstants.{BODY_LENGTHS}
+use Rattle.user_control.specs.Code.{number_of}
+use Rattle.user_control.specs.Reading.{body_length, count}
 use Rattle.user_control.proofs.length.body_length.Goals as goal
 
-pub returns-then-code-ge33 : goal.returns-then-code-ge33
-unfolding length_of
-returns-then-code-ge33 c = simp (unknown_beyond c.args.code c.if-code-ge33.true)
+listed : (k : Code) → slice_index_or BODY_LENGTHS (number_of k) 0 ≡ body_length (number_of k)
+unfolding count
+listed StreamBegin = refl
+listed StreamEof = refl
+listed StreamDry = refl
+listed SetBufferLength = refl
+listed StreamIsRecorded = refl
+listed PingRequest = refl
+listed PingResponse = refl
+listed BufferEmpty = refl
+listed BufferReady = refl
 
-pub returns-in-0 : goal.returns-in-0
-unfolding entry known count
-returns-in-0 c =
-    let e = get_d_tabulate entry 33 c.args.code 0 c.if-code-ge33.false in
-    sym (entry_none c.args.code (sym e ∙ c.in-0.is))
-
-pub returns-in_default : goal.returns-in_default
-unfolding entry known count
-returns-in_default c =
-    let e = get_d_tabulate entry 33 c.args.code 0 c.if-code-ge33.false in
-    ap Some e ∙ sym (entry_some c.args.code (λ z. omega (arith, e)))
+pub returns : goal.returns
+returns c = ap (λ i. slice_index_or BODY_LENGTHS i 0) c.number.ensures ∙ listed c.args.code
