@@ -99,9 +99,33 @@ impl ChunkSerializer {
         Ok(needed)
     }
 
-    // Writes a message at the start of `output`.
-    // Kept: six arguments for a message, here and in `packet_length`: the public signature, which README names.
+    // A message whose payload may be of any length.
     #[tactic(auto, unfolding(crate::specs::Serialize::serialized))]
+    fn write_message(
+        &mut self,
+        type_id: u8,
+        stream_id: u32,
+        timestamp: RtmpTimestamp,
+        payload: &[u8],
+        force_uncompressed: bool,
+        can_be_dropped: bool,
+        output: &mut [u8],
+    ) -> Result<usize, PacketError>
+        ensures { outcome result self.new output.new ≡ serialized self.old (message_of type_id stream_id timestamp.value (length payload.now) force_uncompressed can_be_dropped) payload.now output.old }
+    {
+        let message = Message {
+            type_id,
+            stream_id,
+            timestamp,
+            length: payload_length(payload)?,
+            force_uncompressed,
+            can_be_dropped,
+        };
+        self.send(message, payload, self.max_chunk_size, output)
+    }
+
+    // Writes a message at the start of `output`.
+    // Kept: six arguments for a message, here and in `packet_length`: callers outside, README's example among them, give them so.
     pub fn serialize(
         mut self,
         type_id: u8,
@@ -114,22 +138,15 @@ impl ChunkSerializer {
     ) -> Serialized
         ensures { outcome_of result output.new ≡ serialized self (message_of type_id stream_id timestamp.value (length payload.now) force_uncompressed can_be_dropped) payload.now output.old }
     {
-        let size = self.max_chunk_size;
-        // Kept: a match, since the closure of an `and_then` would change encoder and output, and then the goal `returns` stays open.
-        let packet = match payload_length(payload) {
-            Ok(length) => {
-                let message = Message {
-                    type_id,
-                    stream_id,
-                    timestamp,
-                    length,
-                    force_uncompressed,
-                    can_be_dropped,
-                };
-                self.send(message, payload, size, output)
-            }
-            Err(error) => Err(error),
-        };
+        let packet = self.write_message(
+            type_id,
+            stream_id,
+            timestamp,
+            payload,
+            force_uncompressed,
+            can_be_dropped,
+            output,
+        );
         Serialized {
             serializer: self,
             packet,
