@@ -99,7 +99,7 @@ impl ChunkSerializer {
         Ok(needed)
     }
 
-    // A message whose payload may be of any length.
+    // Writes a message, or refuses it where its payload has a length that is not allowed.
     #[tactic(auto, unfolding(crate::specs::Serialize::serialized))]
     fn write_message(
         &mut self,
@@ -125,7 +125,7 @@ impl ChunkSerializer {
     }
 
     // Writes a message at the start of `output`.
-    // Kept: six arguments for a message, here and in `packet_length`: callers outside, README's example among them, give them so.
+    // Kept: six arguments for a message, here, above and in `packet_length`: callers outside, README's example too, give them so.
     pub fn serialize(
         mut self,
         type_id: u8,
