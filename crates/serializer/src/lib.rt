@@ -3,11 +3,9 @@
 
 ghost use Rattle.std.specs.Prelude.{◌≡◌, ◌<◌, ◌≤◌, ◌⊎◌, length, MatchResult};
 ghost use Rattle.serializer.specs.Answer.{answer_of};
-ghost use Rattle.serializer.specs.Header.{first_chunk};
 ghost use Rattle.serializer.specs.Message.{message as message_of};
-ghost use Rattle.serializer.specs.Plan.{bytes_of};
-ghost use Rattle.serializer.specs.Remembered.{fresh, packet_of, previous};
-ghost use Rattle.serializer.specs.Serialize.{needed, outcome_of, sent, serialized, size_changed, outcome};
+ghost use Rattle.serializer.specs.Remembered.{fresh, previous};
+ghost use Rattle.serializer.specs.Serialize.{needed, outcome, outcome_of, sent, serialized, size_changed};
 ghost use Rattle.chunk_header.specs.Limits.{max_length};
 
 mod cursor;
@@ -65,14 +63,11 @@ impl ChunkSerializer {
         }
     }
 
-    // The plan of a message, after what is remembered of its stream.
-    fn plan<'a>(&self, message: Message, payload: &'a [u8]) -> Plan<'a>
-        requires { (0 < length payload.now) × (length payload.now ≤ max_length) }
-        ensures first { result.first ≡ first_chunk message (previous self.now message) }
-        ensures bytes { bytes_of result ≡ packet_of self.now message payload.now }
+    // What is remembered of the message's stream.
+    fn previous(&self, message: Message) -> ChunkHeader
+        ensures { result ≡ previous self.now message }
     {
-        let previous = self.previous_headers[row_of(message.type_id)];
-        Plan::new(message, previous, self.max_chunk_size, payload)
+        self.previous_headers[row_of(message.type_id)]
     }
 
     // Sends a message whose payload has a length that is allowed; from then on chunks have `size_after`. A refusal leaves all as before.
@@ -87,7 +82,12 @@ impl ChunkSerializer {
         requires { (0 < length payload.now) × (length payload.now ≤ max_length) }
         ensures { outcome result self.new output.new ≡ sent self.old message payload.now size_after output.old }
     {
-        let plan = self.plan(message, payload);
+        let plan = Plan::new(
+            message,
+            self.previous(message),
+            self.max_chunk_size,
+            payload,
+        );
         let needed = plan.length();
         if output.len() < needed {
             return Err(PacketError::OutputTooShort);
@@ -99,9 +99,33 @@ impl ChunkSerializer {
         Ok(needed)
     }
 
-    // Writes a message at the start of `output`.
-    // Kept: six arguments for a message, here and in `packet_length`: the public signature, which README names.
+    // Writes a message, or refuses it where its payload has a length that is not allowed.
     #[tactic(auto, unfolding(crate::specs::Serialize::serialized))]
+    fn write_message(
+        &mut self,
+        type_id: u8,
+        stream_id: u32,
+        timestamp: RtmpTimestamp,
+        payload: &[u8],
+        force_uncompressed: bool,
+        can_be_dropped: bool,
+        output: &mut [u8],
+    ) -> Result<usize, PacketError>
+        ensures { outcome result self.new output.new ≡ serialized self.old (message_of type_id stream_id timestamp.value (length payload.now) force_uncompressed can_be_dropped) payload.now output.old }
+    {
+        let message = Message {
+            type_id,
+            stream_id,
+            timestamp,
+            length: payload_length(payload)?,
+            force_uncompressed,
+            can_be_dropped,
+        };
+        self.send(message, payload, self.max_chunk_size, output)
+    }
+
+    // Writes a message at the start of `output`.
+    // Kept: six arguments for a message, here, above and in `packet_length`: callers outside, README's example too, give them so.
     pub fn serialize(
         mut self,
         type_id: u8,
@@ -114,22 +138,15 @@ impl ChunkSerializer {
     ) -> Serialized
         ensures { outcome_of result output.new ≡ serialized self (message_of type_id stream_id timestamp.value (length payload.now) force_uncompressed can_be_dropped) payload.now output.old }
     {
-        let size = self.max_chunk_size;
-        // Kept: a match, since the closure of an `and_then` would change encoder and output, and then the goal `returns` stays open.
-        let packet = match payload_length(payload) {
-            Ok(length) => {
-                let message = Message {
-                    type_id,
-                    stream_id,
-                    timestamp,
-                    length,
-                    force_uncompressed,
-                    can_be_dropped,
-                };
-                self.send(message, payload, size, output)
-            }
-            Err(error) => Err(error),
-        };
+        let packet = self.write_message(
+            type_id,
+            stream_id,
+            timestamp,
+            payload,
+            force_uncompressed,
+            can_be_dropped,
+            output,
+        );
         Serialized {
             serializer: self,
             packet,
@@ -188,7 +205,13 @@ impl ChunkSerializer {
             force_uncompressed,
             can_be_dropped,
         };
-        Ok(self.plan(message, payload).length())
+        let plan = Plan::new(
+            message,
+            self.previous(message),
+            self.max_chunk_size,
+            payload,
+        );
+        Ok(plan.length())
     }
 
     pub fn get_max_chunk_size(self) -> u32
