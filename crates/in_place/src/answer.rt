@@ -17,6 +17,7 @@ pub struct Message {
     pub length: u32,
 }
 
+// Kept: three cases, each with what was used, are the shape of no Option or Result.
 #[derive(Clone, Copy)]
 pub enum Answer {
     Message { message: Message, used: usize },
