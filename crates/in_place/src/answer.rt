@@ -9,7 +9,7 @@ use held::held_in;
 use time::RtmpTimestamp;
 
 // A message: its payload is the first `length` bytes of the payload buffer.
-#[derive(Clone, Copy)]
+#[derive(Clone, Copy, Debug, PartialEq, Eq)]
 pub struct Message {
     pub type_id: u32,
     pub stream_id: u32,
@@ -18,7 +18,7 @@ pub struct Message {
 }
 
 // Kept: three cases, each with what was used, are the shape of no Option or Result.
-#[derive(Clone, Copy)]
+#[derive(Clone, Copy, Debug, PartialEq, Eq)]
 pub enum Answer {
     Message { message: Message, used: usize },
     More { used: usize },
