@@ -13,21 +13,21 @@ pub use in_place::{Answer, Message, Refusal};
 use in_place::{TABLE_LENGTH, get_max_chunk_size, make, next_message, set_max_chunk_size};
 
 // A decoder: the 24 numbers that it holds, and the table of rows.
-#[derive(Clone, Copy)]
+#[derive(Clone, Copy, Debug, PartialEq, Eq)]
 pub struct ChunkDeserializer {
     held: [u32; 24],
     rows: [u32; TABLE_LENGTH],
 }
 
 // What a call answers, and the decoder handed back beside it.
-#[derive(Clone, Copy)]
+#[derive(Clone, Copy, Debug, PartialEq, Eq)]
 pub struct Decoded {
     pub deserializer: ChunkDeserializer,
     pub answer: Answer,
 }
 
 // What making a decoder, or telling it a size, answers, and the decoder handed back beside it.
-#[derive(Clone, Copy)]
+#[derive(Clone, Copy, Debug, PartialEq, Eq)]
 pub struct Told {
     pub deserializer: ChunkDeserializer,
     pub telling: Result<(), Refusal>,

@@ -17,7 +17,7 @@ pub struct Message {
     pub length: u32,
 }
 
-// Kept: three cases, and in each what was used; a Result of an Option beside that number is no plainer to match.
+// Kept: three cases, each with what was used, are the shape of no Option or Result.
 #[derive(Clone, Copy, Debug, PartialEq, Eq)]
 pub enum Answer {
     Message { message: Message, used: usize },

@@ -56,7 +56,7 @@ fn chunks(
 {
     let mut got = come;
     let mut at = start;
-    // Kept: no range has these places, as each chunk is as long as what is left of its message.
+    // Kept: no `for`, as each chunk has a length of its own, and the place where it ends is answered.
     while at < input.len() {
         let left = size.min(length.saturating_sub(got));
         if stops(input, at, id, got, length, left) {

@@ -61,7 +61,7 @@ pub fn turns(
     ensures { Lent (answer_of result) held.new rows.new payload.new (run input.now (decode held.old rows.old) payload.old 0) }
 {
     let mut at = 0;
-    // Kept: no range has these places, as each turn goes on by as much as it used.
+    // Kept: no `for`, as each turn goes on by as many bytes as it answers, and the place is what is answered.
     while at < input.len() {
         let moved = turn(held, rows, &input[at..], payload);
         at += moved.used;
