@@ -1,7 +1,7 @@
 // The calls of a decoder that goes in by value and comes back.
 use deserializer::{ChunkDeserializer, Told};
 use script_calls::{Fed, Taken};
-use script_text::{MOST_WORDS, read_hex, read_number, split_words};
+use script_text::{read_hex, read_number, split_words};
 use std::fmt;
 use std::fmt::Write;
 
@@ -40,8 +40,8 @@ impl Decoding {
 
     // Makes the call that the line is, and puts its answer; none where it is no call. More payload buffer than there is cannot be lent.
     pub fn make(&mut self, line: &[u8], text: &mut impl Write) -> Option<()> {
-        let mut words = [""; MOST_WORDS];
-        match *split_words(line, &mut words)? {
+        let words = split_words(line)?;
+        match *words.as_slice() {
             ["dec", "new", room] => {
                 let told = ChunkDeserializer::new(read_number(room)?);
                 self.put_told(told, text).ok()

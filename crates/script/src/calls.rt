@@ -4,7 +4,7 @@ use script_bodies::{make_body, make_control, make_settings, make_time};
 use script_calls::{make_dec, make_enc};
 use script_lines::LONGEST_LINE;
 use script_plans::make_plan;
-use script_text::{MOST_WORDS, split_words};
+use script_text::split_words;
 use serializer::ChunkSerializer;
 use std::fmt::Write;
 
@@ -53,8 +53,8 @@ impl Calls {
         if LONGEST_LINE < line.len() {
             return None;
         }
-        let mut words = [""; MOST_WORDS];
-        let words = split_words(line, &mut words)?;
+        let words = split_words(line)?;
+        let words = words.as_slice();
         let bytes = &mut self.bytes;
         let output = &mut self.output;
         match *words.first()? {

@@ -1,7 +1,6 @@
 // The calls of lines that ask the planner or its check. A test tool: it is proved safe and ending, and promises nothing further.
 #![tactic(auto)]
 
-mod buffer;
 mod plan_calls;
 mod queues;
 

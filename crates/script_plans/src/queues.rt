@@ -1,5 +1,5 @@
 // A queue and places, as lines say them in bytes.
-use crate::buffer::Buffer;
+use arrayvec::ArrayVec;
 
 // A queue of more packets, and more places, fit on no line.
 const MOST_PACKETS: usize = 26214;
@@ -7,10 +7,11 @@ const MOST_PACKETS: usize = 26214;
 const MOST_PLACES: usize = 32768;
 
 // The packets' lengths, oldest first, and their droppable marks.
+// Kept: two vectors, as drop_plan's `judge` and `propose` take two slices.
 #[derive(Drop)]
 pub struct Queue {
-    lengths: Buffer<u32, MOST_PACKETS>,
-    droppable: Buffer<bool, MOST_PACKETS>,
+    lengths: ArrayVec<u32, MOST_PACKETS>,
+    droppable: ArrayVec<bool, MOST_PACKETS>,
 }
 
 impl Queue {
@@ -20,15 +21,16 @@ impl Queue {
             return None;
         }
         let mut queue = Queue {
-            lengths: Buffer::new(0),
-            droppable: Buffer::new(false),
+            lengths: ArrayVec::new(),
+            droppable: ArrayVec::new(),
         };
         for packet in bytes.chunks_exact(5) {
             let [a, b, c, d, mark] = packet else {
                 return None;
             };
-            queue.lengths.push(u32::from_be_bytes([*a, *b, *c, *d]))?;
-            queue.droppable.push(read_mark(*mark)?)?;
+            let length = u32::from_be_bytes([*a, *b, *c, *d]);
+            queue.lengths.try_push(length).ok()?;
+            queue.droppable.try_push(read_mark(*mark)?).ok()?;
         }
         Some(queue)
     }
@@ -48,16 +50,16 @@ fn read_mark(byte: u8) -> Option<bool> {
 }
 
 // The places that the bytes say, four a place.
-pub fn read_places(bytes: &[u8]) -> Option<Buffer<u32, MOST_PLACES>> {
+pub fn read_places(bytes: &[u8]) -> Option<ArrayVec<u32, MOST_PLACES>> {
     if bytes.len() % 4 != 0 {
         return None;
     }
-    let mut places = Buffer::new(0);
+    let mut places = ArrayVec::new();
     for place in bytes.chunks_exact(4) {
         let [a, b, c, d] = place else {
             return None;
         };
-        places.push(u32::from_be_bytes([*a, *b, *c, *d]))?;
+        places.try_push(u32::from_be_bytes([*a, *b, *c, *d])).ok()?;
     }
     Some(places)
 }
