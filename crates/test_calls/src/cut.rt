@@ -10,7 +10,9 @@ pub enum Cut {
 
 impl Cut {
     // The first of the lengths that look like chance.
-    pub fn random() -> Self {
+    pub fn random() -> Self
+        ensures { result ≡ Cut.Random 1 }
+    {
         Cut::Random(1)
     }
 

@@ -1,4 +1,7 @@
 // Why a walk stops.
+ghost use Rattle.std.specs.Prelude.{◌≡◌, Err};
+ghost use Rattle.std.specs.declared.io.Error.{Error};
+
 use in_place::Refusal;
 use std::error::Error;
 use std::{fmt, io};
@@ -20,7 +23,9 @@ pub enum Stop {
 
 impl Stop {
     // Writes why; what could not be written before is passed on.
-    pub fn tell(self, rt: &impl Print) -> io::Result<()> {
+    pub fn tell(self, rt: &impl Print) -> io::Result<()>
+        ensures { (error : Error) → self ≡ Stop.Io error → result ≡ Err error }
+    {
         match self {
             Stop::Io(error) => Err(error),
             stop => println!(rt; "{stop}"),

@@ -1,5 +1,5 @@
 // The way of a decoder through an input, piece by piece: what a call left unread is offered again.
-ghost use Rattle.std.specs.Prelude.{◌≤◌, length};
+ghost use Rattle.std.specs.Prelude.{◌≡◌, ◌≤◌, ◌+◌, ◌%◌, ◌^◌, length};
 
 use crate::cut::Cut;
 use crate::decoder::Decoder;
@@ -24,7 +24,9 @@ pub struct Walk<'a> {
 
 impl<'a> Walk<'a> {
     // Before the first piece.
-    pub fn new(input: &'a [u8], cut: Cut) -> Self {
+    pub fn new(input: &'a [u8], cut: Cut) -> Self
+        ensures { (result.used ≡ 0) × (result.calls ≡ 0) × (result.input.now ≡ input.now) }
+    {
         Walk {
             input,
             cut,
@@ -40,7 +42,9 @@ impl<'a> Walk<'a> {
     }
 
     // What is unread of the piece; the next one, where all of it is used.
-    fn piece(&mut self) -> &'a [u8] {
+    fn piece(&mut self) -> &'a [u8]
+        ensures { (self.new.used ≡ self.old.used) × (self.new.calls ≡ self.old.calls) × (self.new.input.now ≡ self.old.input.now) }
+    {
         if self.used == self.end {
             self.end += self.cut.next_length().min(self.input.len() - self.end);
         }
@@ -48,7 +52,9 @@ impl<'a> Walk<'a> {
     }
 
     // Goes on by what a call used.
-    fn forward(&mut self, used: usize) -> Result<(), Stop> {
+    fn forward(&mut self, used: usize) -> Result<(), Stop>
+        ensures { (self.old.used ≤ self.new.used) × (self.new.input.now ≡ self.old.input.now) }
+    {
         self.calls = self.calls.wrapping_add(1);
         if self.end - self.used < used {
             return Err(Stop::TooFar);
@@ -63,7 +69,9 @@ impl<'a> Walk<'a> {
         &mut self,
         decoder: &mut Decoder,
         payload: &mut [u8],
-    ) -> Result<Option<Message>, Stop> {
+    ) -> Result<Option<Message>, Stop>
+        ensures { (self.old.used ≤ self.new.used) × (self.new.input.now ≡ self.old.input.now) }
+    {
         for _ in 0..=self.input.len() {
             let answer = decoder.next_message(self.piece(), payload);
             self.forward(used_of(answer))?;
@@ -85,6 +93,7 @@ impl<'a> Walk<'a> {
         mut take: F,
     ) -> Result<(), Stop>
         requires { F.IsAlwaysCallable take }
+        ensures { (self.old.used ≤ self.new.used) × (self.new.input.now ≡ self.old.input.now) }
     {
         for _ in 0..=self.input.len() {
             let Some(message) = self.next_message(decoder, payload)? else {
