@@ -19,7 +19,6 @@ fn with_byte(before: u32, lacks: u32, byte: u8) -> (u32, u32)
     )
 }
 
-// Kept: a function a field, as what is done with one that is whole differs; what they share is with_byte.
 // The header with a field that is whole goes on to the next one, and a field that is not is kept.
 // Kept: a function a field, as each is put elsewhere, waits in a stage of its own and goes on to another one; `with_byte` is what they share.
 #[tactic(auto, unfolding(byte_machine::specs::Step::timestamp_field_step))]

@@ -27,7 +27,8 @@ pub struct Held {
     pub closed: u32,
     pub stage: Stage,
     pub format: ChunkHeaderFormat,
-    // Kept: the table has this place or it has not, as any number may be lent (specs/Numbers.antt, decode); put_at tests it
+    // Kept: the table has this place or it has not, as any number may be lent (specs/Numbers.antt, decode); put_at tests it.
+    // So with `closed` and `id`, whose 0 is none: an Option of them would have a case that no number means.
     pub place: u32,
     pub left: u32,
     pub id: u32,
@@ -66,6 +67,7 @@ fn held_row(held: &[u32; 24], at: usize) -> HeldRow
 }
 
 // The format that a type's number means: one over 3 means type 3.
+// Kept: no `get_format`, which reads the first two bits of a byte.
 #[tactic(auto, unfolding(crate::specs::Numbers::format_from))]
 pub fn format_from(kind: u32) -> ChunkHeaderFormat
     ensures { result ≡ format_from kind }

@@ -19,6 +19,7 @@ pub struct Moved {
 }
 
 // Whether payload may come: the chunk at hand lacks a byte, and ends within the room.
+// Kept: tests of the numbers that are lent, here and in further.rt, as `Ready` and `Apart` in specs/ have them.
 #[tactic(auto, using(held::proofs::Stages::payload_from, crate::proofs::Landing::same_test), unfolding(byte_machine::specs::Payload::pays))]
 pub fn may_pay(held: &[u32; 24]) -> bool
     ensures { result ≡ may_pay (held_in held.now) }

@@ -73,6 +73,7 @@ fn carried(format: ChunkHeaderFormat, row: HeldRow, input: &[u8]) -> HeldRow
 }
 
 // Whether the decoder is not between messages, or there is no input, or too short a buffer.
+// Kept: tests of the numbers that are lent, here and in piece.rt, as `Midway` and `Outside` in specs/Quick.antt have them.
 fn is_midway(held: &[u32; 24], length: usize, lent: usize) -> bool
     ensures { Midway result held.now length lent }
 {
