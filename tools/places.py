@@ -83,6 +83,10 @@ def skeleton(body):
     return tuple(w if w in keep or not re.match(r"\w|b?[\"']", w) else ("1" if w[0].isdigit() else "x") for w in words)
 
 
+# Of one name, or of one shape, by what they are: a trait's method is written for each type.
+NOT_TWINS = ("main", "new", "fmt")
+
+
 def alike(a, b):
     return difflib.SequenceMatcher(None, a, b, False).ratio() >= 0.8
 
@@ -99,11 +103,12 @@ def point_2(root):
                 shapes[shape].append((path, line, name))
     told = set()
     for group in shapes.values():
+        group = [member for member in group if member[2] not in NOT_TWINS]
         for path, line, name in group if len(group) > 1 else []:
             told.add((path, line))
             yield path, line, f"fn {name}: of one shape with {', '.join(sorted({n for _, _, n in group} - {name})) or 'another of its name'}"
     for name, group in names.items():
-        for crate, path, line, shape in group if name not in ("main", "new") else []:
+        for crate, path, line, shape in group if name not in NOT_TWINS else []:
             others = sorted({c for c, _, _, s in group if c != crate and alike(s, shape)})
             if others and (path, line) not in told:
                 yield path, line, f"fn {name}: also in {', '.join(others)}"
@@ -194,10 +199,8 @@ def point_7(root):
 
 
 def point_8(root):
-    """Imports from the logic's own libraries, names with a middle dot in src/, and the answers by hand (a line a file)."""
+    """Answers by hand in proofs/, and names with a middle dot in src/."""
     for path in files(root, "proofs", ".antt"):
-        for line, text in ((n, t) for n, t in enumerate(path.read_text().splitlines(), 1) if re.match(r"use (?:Prim|mathlib|lib)\.", t)):
-            yield path, line, text
         if path.name == "Answers.antt":
             for line, text in enumerate(path.read_text().splitlines(), 1):
                 if re.match(r"[a-z]\S* (?:g )?c =", text):

@@ -17,6 +17,7 @@ pub fn decode_all<F: FnMut(&[u8], &mut [u8]) -> Answer>(
     let mut unread = input;
     // how many bytes of the piece are unread
     let mut left = 0;
+    // Kept: no `for`, as each step is as long as what its call used.
     while !unread.is_empty() {
         if left == 0 {
             left = if piece == 0 {

@@ -17,6 +17,7 @@ pub enum PlanError {
 
 impl PlanError {
     // Its number in the table of refusals.
+    // Kept: each enum of refusals casts its own number, here and in other crates: a trait would take an impl for each all the same.
     pub fn number(self) -> u32
         ensures { result ≡ number_of self }
     {

@@ -53,6 +53,8 @@ pub fn is_own(rows: &[u32; TABLE_LENGTH], place: usize) -> bool
     rows[6 * place + 4] < 256
 }
 
+// The row at a place.
+// Kept: a place below 64 is asked for in three contracts here: `find` and `first_free` answer one (`within`), and a type of its own would wrap it for these calls alone.
 pub fn row_in(rows: &[u32; TABLE_LENGTH], i: usize) -> HeldRow
     requires { i < row_count }
     ensures { result ≡ held_row_of (row_at rows.now i) }

@@ -13,6 +13,7 @@ use header_in_place::take_byte;
 use held::{Event, TABLE_LENGTH};
 
 // Takes a stretch of a payload, or a byte of a header ..
+// Kept: what is asked for here and twice below is of the four that are lent together, which no one value holds.
 fn once(
     held: &mut [u32; 24],
     rows: &mut [u32; TABLE_LENGTH],

@@ -27,6 +27,7 @@ fn lies_outside(held: &[u32; 24], length: usize, lent: usize) -> bool
 }
 
 // After n bytes of payload that do not end their chunk.
+// Kept: a case of in_place's `landed` too, which has no call of it here below; it is one expression.
 fn nearer(h: Held, n: u32) -> Held
     requires { (n ≤ h.left) × (h.got + h.left ≤ 0xffff_ffff) }
     ensures { meant result [] ≡ nearer (meant h []) n }

@@ -43,6 +43,7 @@ impl Call {
         }
     }
 
+    // Kept: a name for each type of message, as the plan below reads by them.
     fn picture(time: u32, length: usize) -> Self {
         Call::new(Request::Message { type_id: 9, length }, time)
     }
