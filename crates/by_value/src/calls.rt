@@ -1,8 +1,7 @@
 // The calls of a decoder that goes in by value and comes back.
-use deserializer::{ChunkDeserializer, Told};
-use script_calls::{Fed, Taken};
-use script_text::{read_hex, read_number, split_words};
-use std::fmt;
+use deserializer::{Answer, ChunkDeserializer, Refusal};
+use script_calls::{Decoder, make_dec};
+use script_text::split_words;
 use std::fmt::Write;
 
 // The bytes that a line gives in hex.
@@ -14,10 +13,38 @@ const PAYLOAD_LENGTH: usize = 65536;
 // The room of the decoder that is there at the start.
 const FIRST_ROOM: u32 = 65536;
 
+// The decoder that was handed back last.
+#[derive(Clone, Copy)]
+struct ByValue(ChunkDeserializer);
+
+impl Decoder for ByValue {
+    fn renew(&mut self, room: u32) -> Result<(), Refusal> {
+        let told = ChunkDeserializer::new(room);
+        self.0 = told.deserializer;
+        told.telling
+    }
+
+    fn feed(&mut self, piece: &[u8], payload: &mut [u8]) -> Answer {
+        let decoded = self.0.get_next_message(piece, payload);
+        self.0 = decoded.deserializer;
+        decoded.answer
+    }
+
+    fn tell(&mut self, size: u32) -> Result<(), Refusal> {
+        let told = self.0.set_max_chunk_size(size);
+        self.0 = told.deserializer;
+        told.telling
+    }
+
+    fn size(&self) -> u32 {
+        self.0.get_max_chunk_size()
+    }
+}
+
 // What calls are made on, kept from line to line, and what they are lent.
 #[derive(Drop)]
 pub struct Decoding {
-    decoder: ChunkDeserializer,
+    decoder: ByValue,
     bytes: [u8; BYTES_LENGTH],
     payload: [u8; PAYLOAD_LENGTH],
 }
@@ -26,40 +53,21 @@ impl Decoding {
     // A fresh decoder.
     pub fn new() -> Self {
         Decoding {
-            decoder: ChunkDeserializer::new(FIRST_ROOM).deserializer,
+            decoder: ByValue(ChunkDeserializer::new(FIRST_ROOM).deserializer),
             bytes: [0; BYTES_LENGTH],
             payload: [0; PAYLOAD_LENGTH],
         }
     }
 
-    // Puts whether a room or a size was taken. The decoder that was handed back is in place of the last.
-    fn put_told(&mut self, told: Told, text: &mut impl Write) -> fmt::Result {
-        self.decoder = told.deserializer;
-        write!(text, "{}", Taken(told.telling))
-    }
-
     // Makes the call that the line is, and puts its answer; none where it is no call. More payload buffer than there is cannot be lent.
     pub fn make(&mut self, line: &[u8], text: &mut impl Write) -> Option<()> {
         let words = split_words(line)?;
-        match *words.as_slice() {
-            ["dec", "new", room] => {
-                let told = ChunkDeserializer::new(read_number(room)?);
-                self.put_told(told, text).ok()
-            }
-            ["dec", "feed", buffer, hex] => {
-                let piece = read_hex(hex, &mut self.bytes)?;
-                let payload = self.payload.get_mut(..read_number(buffer)?)?;
-                let decoded = self.decoder.get_next_message(piece, payload);
-                self.decoder = decoded.deserializer;
-                let answer = decoded.answer;
-                write!(text, "{}", Fed { answer, payload }).ok()
-            }
-            ["dec", "size", size] => {
-                let told = self.decoder.set_max_chunk_size(read_number(size)?);
-                self.put_told(told, text).ok()
-            }
-            ["dec", "size?"] => { write!(text, "size {}", self.decoder.get_max_chunk_size()).ok() }
-            _ => None,
-        }
+        make_dec(
+            &mut self.decoder,
+            words.as_slice(),
+            &mut self.bytes,
+            &mut self.payload,
+            text,
+        )
     }
 }

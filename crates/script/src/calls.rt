@@ -1,7 +1,6 @@
 // The calls that lines are.
-use in_place::TABLE_LENGTH;
 use script_bodies::{make_body, make_control, make_settings, make_time};
-use script_calls::{make_dec, make_enc};
+use script_calls::{InPlace, make_dec, make_enc};
 use script_lines::LONGEST_LINE;
 use script_plans::make_plan;
 use script_text::split_words;
@@ -24,9 +23,7 @@ const FIRST_ROOM: u32 = 65536;
 #[derive(Drop)]
 pub struct Calls {
     encoder: ChunkSerializer,
-    // the decoder's numbers and table
-    held: [u32; 24],
-    rows: [u32; TABLE_LENGTH],
+    decoder: InPlace,
     bytes: [u8; BYTES_LENGTH],
     output: [u8; OUTPUT_LENGTH],
     payload: [u8; PAYLOAD_LENGTH],
@@ -35,13 +32,9 @@ pub struct Calls {
 impl Calls {
     // A fresh encoder and a fresh decoder.
     pub fn new() -> Self {
-        let mut held = [0; 24];
-        let mut rows = [0; TABLE_LENGTH];
-        let _ = in_place::make(&mut held, &mut rows, FIRST_ROOM);
         Calls {
             encoder: ChunkSerializer::new(),
-            held,
-            rows,
+            decoder: InPlace::new(FIRST_ROOM),
             bytes: [0; BYTES_LENGTH],
             output: [0; OUTPUT_LENGTH],
             payload: [0; PAYLOAD_LENGTH],
@@ -59,14 +52,7 @@ impl Calls {
         let output = &mut self.output;
         match *words.first()? {
             "enc" => make_enc(&mut self.encoder, words, bytes, output, text),
-            "dec" => make_dec(
-                &mut self.held,
-                &mut self.rows,
-                words,
-                bytes,
-                &mut self.payload,
-                text,
-            ),
+            "dec" => make_dec(&mut self.decoder, words, bytes, &mut self.payload, text),
             "time" => make_time(words, text),
             "control" => make_control(words, bytes, output, text),
             "settings" => make_settings(words, bytes, output, text),

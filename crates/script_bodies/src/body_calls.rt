@@ -41,6 +41,7 @@ fn read(kind: Kind, body: &[u8], text: &mut impl Write) -> fmt::Result {
 }
 
 // Makes the call `body write`.
+// Kept: three like it, in three files; one for all would take the crate's writing as a closure and its error's trait: no plainer.
 fn write(control: ProtocolControl, output: &mut [u8], text: &mut impl Write) -> fmt::Result {
     let count = protocol_control::serialize(control, output).map_err(WriteError::number);
     write!(text, "{}", Written { count, output })

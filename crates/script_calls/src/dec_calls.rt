@@ -1,5 +1,6 @@
-// The calls of the decoder, over the numbers and the table that are lent.
-use in_place::{Answer, Message, Refusal, TABLE_LENGTH};
+// The calls of a decoder.
+use crate::decoder::Decoder;
+use in_place::{Answer, Message, Refusal};
 use script_said::{Hex, Refused};
 use script_text::{read_hex, read_number};
 use std::fmt;
@@ -8,7 +9,7 @@ use test_parts::part;
 
 // Whether a room or a size was taken.
 #[derive(Clone, Copy)]
-pub struct Taken(pub Result<(), Refusal>);
+struct Taken(Result<(), Refusal>);
 
 impl fmt::Display for Taken {
     fn fmt<W: Write>(&self, f: &mut fmt::Formatter<W>) -> fmt::Result {
@@ -21,9 +22,9 @@ impl fmt::Display for Taken {
 
 // What a feed answers, and the payload buffer: a message's payload is at its start.
 #[derive(Clone, Copy)]
-pub struct Fed<'a> {
-    pub answer: Answer,
-    pub payload: &'a [u8],
+struct Fed<'a> {
+    answer: Answer,
+    payload: &'a [u8],
 }
 
 impl fmt::Display for Fed<'_> {
@@ -53,8 +54,7 @@ impl fmt::Display for Fed<'_> {
 // Makes the call that the words are, and puts its answer; none where they are no call. More payload buffer than there is cannot be
 // lent.
 pub fn make_dec(
-    held: &mut [u32; 24],
-    rows: &mut [u32; TABLE_LENGTH],
+    decoder: &mut impl Decoder,
     words: &[&str],
     bytes: &mut [u8],
     payload: &mut [u8],
@@ -62,19 +62,19 @@ pub fn make_dec(
 ) -> Option<()> {
     match *words {
         ["dec", "new", room] => {
-            let told = in_place::make(held, rows, read_number(room)?);
+            let told = decoder.renew(read_number(room)?);
             write!(text, "{}", Taken(told)).ok()
         }
         ["dec", "feed", buffer, hex] => {
             let payload = payload.get_mut(..read_number(buffer)?)?;
-            let answer = in_place::next_message(held, rows, read_hex(hex, bytes)?, payload);
+            let answer = decoder.feed(read_hex(hex, bytes)?, payload);
             write!(text, "{}", Fed { answer, payload }).ok()
         }
         ["dec", "size", size] => {
-            let told = in_place::set_max_chunk_size(held, read_number(size)?);
+            let told = decoder.tell(read_number(size)?);
             write!(text, "{}", Taken(told)).ok()
         }
-        ["dec", "size?"] => write!(text, "size {}", in_place::get_max_chunk_size(held)).ok(),
+        ["dec", "size?"] => write!(text, "size {}", decoder.size()).ok(),
         _ => None,
     }
 }

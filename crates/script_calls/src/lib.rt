@@ -3,7 +3,9 @@
 #![tactic(auto)]
 
 mod dec_calls;
+mod decoder;
 mod enc_calls;
 
-pub use crate::dec_calls::{Fed, Taken, make_dec};
+pub use crate::dec_calls::make_dec;
+pub use crate::decoder::{Decoder, InPlace};
 pub use crate::enc_calls::make_enc;
