@@ -41,7 +41,8 @@ impl Tally {
                 self.sum.mix(message.stream_id);
                 self.sum.mix(message.timestamp.value);
                 self.sum.mix(message.length);
-                self.sum.probe(part(payload, 0, message.length as usize), every);
+                self.sum
+                    .probe(part(payload, 0, message.length as usize), every);
                 self.message();
             }
             Answer::More { .. } => {}
