@@ -1,4 +1,6 @@
 // A decoder's way through an input.
+ghost use Rattle.std.specs.Prelude.{◌≤◌, ◌<◌, length};
+
 use crate::tally::Tally;
 use in_place::Answer;
 use test_calls::used_of;
@@ -12,6 +14,8 @@ pub fn decode_all<F: FnMut(&[u8], &mut [u8]) -> Answer>(
     mut next_message: F,
 ) -> Tally
     requires { F.IsAlwaysCallable next_message }
+    ensures most { result.calls ≤ length input.now }
+    ensures least { 0 < length input.now → 0 < result.calls }
 {
     let mut tally = Tally::default();
     let mut unread = input;

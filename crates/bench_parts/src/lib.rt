@@ -1,6 +1,7 @@
 // For the runs that bench/run times: a decoder's way through an input, and what a run answers.
 #![tactic(auto)]
 
+mod checksum;
 mod decode;
 mod tally;
 
