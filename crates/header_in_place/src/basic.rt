@@ -90,6 +90,7 @@ fn named(h: Held, rows: &[u32; TABLE_LENGTH], first: u32, id: u32) -> Result<Don
 }
 
 // A basic header of one byte, of two and of three: an id, or more of it has to come.
+// Kept: a function a length, as a first byte that is lent may be any number, and so is no byte of a slice.
 #[tactic(auto, unfolding(chunk_header::specs::Basic::csid))]
 pub fn one(a: u32) -> Option<u32>
     ensures { result ≡ csid (a ∷ []) }

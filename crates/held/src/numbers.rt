@@ -52,6 +52,7 @@ pub fn claimed(id: u32) -> HeldRow
 }
 
 // Six of the numbers, as a row.
+// Kept: as in table.rt, whose row has its type cut to a byte (`row_at` in byte_machine's specs/Rows.antt): one for both would be given which.
 fn held_row(held: &[u32; 24], at: usize) -> HeldRow
     requires { at + 5 < 24 }
     ensures { result ≡ held_row_at held.now at }

@@ -42,6 +42,7 @@ fn take_chunk(left: u32, got: u32, input: &[u8], at: usize, payload: &mut [u8])
 }
 
 // Takes such chunks as long as there are any.
+// Kept: numbers apart, as some stay from chunk to chunk and two go on; `Gone` has these.
 fn chunks(
     size: u32,
     id: u32,
