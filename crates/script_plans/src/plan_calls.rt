@@ -7,7 +7,7 @@ use std::fmt;
 use std::fmt::Write;
 
 // Places whose text is four bytes a place in hex, and a dash for none.
-// Kept: hex here, in script_said, captures and trip: items of other widths, or the first four alone, each in one line.
+// Kept: hex here, in script_said, captures and trip: items of another width, or the first four alone, each by one `write!` in a loop.
 #[derive(Clone, Copy)]
 struct Hex<'a>(&'a [u32]);
 

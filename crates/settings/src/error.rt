@@ -22,7 +22,7 @@ pub enum WriteError {
 }
 
 impl ReadError {
-    // Kept: each enum of refusals casts its own number, here and in other crates: a trait would take an impl for each all the same.
+    // Kept: a match, as a case that carries the version has no cast.
     pub fn number(self) -> u32
         ensures { number_in (read_answer (Err self)) ≡ result }
     {
