@@ -30,7 +30,7 @@ pub enum ChunkRefusal {
 }
 
 impl ChunkRefusal {
-    // Kept: each enum of refusals casts its own number, here and in four other crates: a trait would take an impl for each all the same.
+    // Kept: each enum of refusals casts its own number, here and in other crates: a trait would take an impl for each all the same.
     pub fn number(self) -> u32
         ensures { result ≡ refusal_number self }
     {

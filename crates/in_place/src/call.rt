@@ -35,7 +35,7 @@ fn by_turns(
     turns(held, rows, input, payload)
 }
 
-// Kept: the two arrays apart, as README and C lend them, and the promise is for every content of them (specs Lent).
+// Kept: the two arrays apart, as README and C lend them, and the promise is for every content of them (one_stroke's specs/Lent.antt).
 // Takes a prefix of `input`, up to the end of the next message at most. The payload of a message is the first bytes of
 // `payload`, where the same buffer was lent untouched since the message's first byte.
 pub fn next_message(
