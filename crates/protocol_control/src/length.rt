@@ -1,6 +1,6 @@
 // Body lengths by message type.
 ghost use Rattle.std.specs.Prelude.{◌≡◌};
-ghost use Rattle.protocol_control.specs.Body.{body_length, kind_of};
+ghost use Rattle.protocol_control.specs.Body.{body_length, kind_of, message_type};
 
 use crate::{Kind, ProtocolControl};
 
@@ -8,10 +8,19 @@ use crate::{Kind, ProtocolControl};
 // Kept: a const table by message type, a project rule; no kind is at an entry of 0.
 const BODY_LENGTHS: [usize; 7] = [0, 4, 4, 4, 0, 4, 5];
 
+impl Kind {
+    // The type of a message with such a body.
+    pub fn message_type(self) -> u8
+        ensures { result ≡ message_type self }
+    {
+        self as u8
+    }
+}
+
 pub fn body_length(kind: Kind) -> usize
     ensures { result ≡ body_length kind }
 {
-    BODY_LENGTHS[kind as usize]
+    BODY_LENGTHS[usize::from(kind.message_type())]
 }
 
 pub fn kind_of(control: ProtocolControl) -> Kind
