@@ -46,15 +46,17 @@ pub fn deserialize(bytes: &[u8]) -> Result<UserControlEvent, ReadError>
     }
     let stream_id = number_at(bytes, 2, 4);
     let timestamp = RtmpTimestamp::new(stream_id);
-    let buffer_length = number_at(bytes, 6, 4);
     match code {
         Code::StreamBegin => Ok(UserControlEvent::StreamBegin { stream_id }),
         Code::StreamEof => Ok(UserControlEvent::StreamEof { stream_id }),
         Code::StreamDry => Ok(UserControlEvent::StreamDry { stream_id }),
-        Code::SetBufferLength => Ok(UserControlEvent::SetBufferLength {
-            stream_id,
-            buffer_length,
-        }),
+        Code::SetBufferLength => {
+            let buffer_length = number_at(bytes, 6, 4);
+            Ok(UserControlEvent::SetBufferLength {
+                stream_id,
+                buffer_length,
+            })
+        }
         Code::StreamIsRecorded => Ok(UserControlEvent::StreamIsRecorded { stream_id }),
         Code::PingRequest => Ok(UserControlEvent::PingRequest { timestamp }),
         Code::PingResponse => Ok(UserControlEvent::PingResponse { timestamp }),

@@ -1,6 +1,7 @@
 -- The body is the code and four bytes a number, and each number is put straight after the one before.
-use Rattle.std.proofs.Common.{◌≡◌, ◌+◌, ◌*◌, [], ◌++◌, length, take, get_or, length-take-le, take_all, append-nil, refl, ◌∙◌, arith}
+use Rattle.std.proofs.Common.{◌≡◌, ℕ, ◌+◌, ◌*◌, List, [], ◌++◌, length, take, get_or, length-take-le, take_all, append-nil, refl, ap, ◌∙◌, arith}
 use Rattle.fields.specs.Endian.{big_endian}
+use Rattle.fields.specs.Output.{stored}
 use Rattle.fields.proofs.Endian.{length_big}
 use Rattle.fields.proofs.Lists.{stored_next}
 use Rattle.fields.proofs.Writing.{writes_none, writes_all}
@@ -8,6 +9,10 @@ use Rattle.user_control.specs.Body.{body_of}
 use Rattle.user_control.specs.Code.{number_of}
 use Rattle.user_control.proofs.Fours.{body_more, length_body}
 use Rattle.user_control.proofs.write.write_numbers.Goals as goal
+
+-- what putting a number leaves, where its width is 4
+put_four : {out' : List ℕ} (out : List ℕ) (place width n : ℕ) → out' ≡ stored out place (big_endian width n) → width ≡ 4 → out' ≡ stored out place (big_endian 4 n)
+put_four out place width n put four = put ∙ ap (λ w. stored out place (big_endian w n)) four
 
 pub returns-then-output-needed : goal.returns-then-output-needed
 returns-then-output-needed c =
@@ -29,7 +34,7 @@ loop-i-preserved c =
     let so_far : length (take i ns) ≡ i = length-take-le i ns (omega arith) in
     let size : length (body_of (number_of a.code) (take i ns)) ≡ 2 + 4 * i = length_body (number_of a.code) (take i ns) ∙ rw so_far in
     let more : body_of (number_of a.code) (take i ns) ++ big_endian 4 n ≡ body_of (number_of a.code) (take (i + 1) ns) = body_more (number_of a.code) ns i (omega arith) in
-    rw (← more) (stored_next (body_of (number_of a.code) (take i ns)) (big_endian 4 n) a.output.now (2 + 4 * i) c.put_number-in-loop-i.ensures c.loop-i.invariant size (omega (arith, length_big 4 n)))
+    rw (← more) (stored_next (body_of (number_of a.code) (take i ns)) (big_endian 4 n) a.output.now (2 + 4 * i) (put_four _ _ _ _ c.put_number-in-loop-i.ensures (omega arith)) c.loop-i.invariant size (omega (arith, length_big 4 n)))
 
 pub returns : goal.returns
 returns c =
