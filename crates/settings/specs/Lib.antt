@@ -3,3 +3,4 @@ pub mod Limits
 pub mod Answer
 pub mod Reading
 pub mod Storing
+pub mod Text

@@ -1,7 +1,8 @@
 // Why a record is not read or not written. Each reason has the number of its row in the table of refusals.
-ghost use Rattle.std.specs.Prelude.{◌≡◌, Err};
+ghost use Rattle.std.specs.Prelude.{◌≡◌, Err, Some};
 ghost use Rattle.fields.specs.Writing.{refused as not_written};
 ghost use Rattle.settings.specs.Answer.{number_in, read_answer, write_answer};
+ghost use Rattle.settings.specs.Text.{read_error_text, write_error_text};
 
 use std::error::Error;
 use std::fmt;
@@ -44,6 +45,8 @@ impl WriteError {
 }
 
 impl fmt::Display for ReadError {
+    ghost output = { λ e. Some (read_error_text e) };
+
     fn fmt<W: fmt::Write>(&self, f: &mut fmt::Formatter<W>) -> fmt::Result {
         match self {
             ReadError::TooShort => write!(f, "the record is too short"),
@@ -55,6 +58,8 @@ impl fmt::Display for ReadError {
 }
 
 impl fmt::Display for WriteError {
+    ghost output = { λ e. Some (write_error_text e) };
+
     fn fmt<W: fmt::Write>(&self, f: &mut fmt::Formatter<W>) -> fmt::Result {
         match self {
             WriteError::OutputTooShort => write!(f, "the output is too short"),

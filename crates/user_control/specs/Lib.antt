@@ -2,3 +2,4 @@ pub mod Body
 pub mod Answer
 pub mod Reading
 pub mod Code
+pub mod Text

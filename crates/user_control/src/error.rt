@@ -1,7 +1,8 @@
 // Why a body is not read or not written. Each reason has the number of its row in the table of refusals.
-ghost use Rattle.std.specs.Prelude.{◌≡◌, Err};
+ghost use Rattle.std.specs.Prelude.{◌≡◌, Err, Some};
 ghost use Rattle.fields.specs.Writing.{refused as not_written};
 ghost use Rattle.user_control.specs.Answer.{read_answer, refused, write_answer};
+ghost use Rattle.user_control.specs.Text.{read_error_text, write_error_text};
 
 use std::error::Error;
 use std::fmt;
@@ -35,6 +36,8 @@ impl WriteError {
 }
 
 impl fmt::Display for ReadError {
+    ghost output = { λ e. Some (read_error_text e) };
+
     fn fmt<W: fmt::Write>(&self, f: &mut fmt::Formatter<W>) -> fmt::Result {
         match self {
             ReadError::BodyTooShort => write!(f, "the body is too short"),
@@ -44,6 +47,8 @@ impl fmt::Display for ReadError {
 }
 
 impl fmt::Display for WriteError {
+    ghost output = { λ e. Some (write_error_text e) };
+
     fn fmt<W: fmt::Write>(&self, f: &mut fmt::Formatter<W>) -> fmt::Result {
         write!(f, "the output is too short")
     }
