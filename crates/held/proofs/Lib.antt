@@ -1,4 +1,5 @@
 pub mod Again
+pub mod Formats
 pub mod Refusals
 pub mod Samples
 pub mod Stages

@@ -1,7 +1,7 @@
--- Stages by their numbers.
-use Rattle.std.proofs.Common.{◌≡◌, refl, ℕ, zero, suc, ◌%◌, ◌≤◌, ◌<◌, Bool, true, false, leb, leb-true, leb-false, ne_eqb, arith}
+-- Stages by their numbers. Each law is true by cases of the number, at 0 to 7 and over: that is all that `stage_from` asks of it.
+use Rattle.std.proofs.Common.{◌≡◌, ◌≢◌, refl, ℕ, zero, suc, ◌%◌, ◌≤◌, ◌<◌, Bool, true, false, leb, leb-true, leb-false, ne_eqb, arith}
 use Rattle.byte_machine.specs.Reader.{Csid, CsidSecond, CsidThird, InitialTimestamp, MessageLength, MessageTypeId, MessageStreamId, ExtendedTimestamp, MessagePayload, in_payload}
-use Rattle.held.specs.Stages.{stage_from, stage_in}
+use Rattle.held.specs.Stages.{code_of, lacks_of, number_of, stage_from, stage_in}
 
 module _ (s n l : ℕ) where
   pub is_csid : s ≡ 0 → stage_from s n l ≡ Csid
@@ -39,6 +39,49 @@ module _ (s n l : ℕ) where
   pub is_payload_lem : 8 ≤ s → stage_from s n l ≡ MessagePayload
   unfolding stage_in
   is_payload_lem h = rw (ne_eqb s 0 (omega (arith, h)), ne_eqb s 1 (omega (arith, h)), ne_eqb s 2 (omega (arith, h)), ne_eqb s 3 (omega (arith, h)), ne_eqb s 4 (omega (arith, h)), ne_eqb s 5 (omega (arith, h)), ne_eqb s 6 (omega (arith, h)), ne_eqb s 7 (omega (arith, h)))
+
+-- the way there and back
+pub code_again : (s n l : ℕ) → s < 8 → code_of (stage_from s n l) ≡ s
+unfolding stage_in
+code_again zero n l h = refl
+code_again (suc zero) n l h = refl
+code_again (suc (suc zero)) n l h = refl
+code_again (suc (suc (suc zero))) n l h = refl
+code_again (suc (suc (suc (suc zero)))) n l h = refl
+code_again (suc (suc (suc (suc (suc zero))))) n l h = refl
+code_again (suc (suc (suc (suc (suc (suc zero)))))) n l h = refl
+code_again (suc (suc (suc (suc (suc (suc (suc zero))))))) n l h = refl
+code_again (suc (suc (suc (suc (suc (suc (suc (suc s)))))))) n l h = absurd (omega (arith, h))
+
+pub number_again : (s n l : ℕ) → s ≢ 0 → s ≢ 5 → s ≤ 7 → number_of (stage_from s n l) ≡ n
+unfolding stage_in
+number_again zero n l a b h = absurd (a refl)
+number_again (suc zero) n l a b h = refl
+number_again (suc (suc zero)) n l a b h = refl
+number_again (suc (suc (suc zero))) n l a b h = refl
+number_again (suc (suc (suc (suc zero)))) n l a b h = refl
+number_again (suc (suc (suc (suc (suc zero))))) n l a b h = absurd (b refl)
+number_again (suc (suc (suc (suc (suc (suc zero)))))) n l a b h = refl
+number_again (suc (suc (suc (suc (suc (suc (suc zero))))))) n l a b h = refl
+number_again (suc (suc (suc (suc (suc (suc (suc (suc s)))))))) n l a b h = absurd (omega (arith, h))
+
+pub lacks_none : (s n l : ℕ) → s < 2 → lacks_of (stage_from s n l) ≡ 0
+unfolding stage_in
+lacks_none zero n l h = refl
+lacks_none (suc zero) n l h = refl
+lacks_none (suc (suc s)) n l h = absurd (omega (arith, h))
+
+pub lacks_again : (s n l : ℕ) → 2 < s → s ≢ 5 → s ≤ 7 → lacks_of (stage_from s n l) ≡ l
+unfolding stage_in
+lacks_again zero n l a b h = absurd (omega (arith, a))
+lacks_again (suc zero) n l a b h = absurd (omega (arith, a))
+lacks_again (suc (suc zero)) n l a b h = absurd (omega (arith, a))
+lacks_again (suc (suc (suc zero))) n l a b h = refl
+lacks_again (suc (suc (suc (suc zero)))) n l a b h = refl
+lacks_again (suc (suc (suc (suc (suc zero))))) n l a b h = absurd (b refl)
+lacks_again (suc (suc (suc (suc (suc (suc zero)))))) n l a b h = refl
+lacks_again (suc (suc (suc (suc (suc (suc (suc zero))))))) n l a b h = refl
+lacks_again (suc (suc (suc (suc (suc (suc (suc (suc s)))))))) n l a b h = absurd (omega (arith, h))
 
 pub not_payload : (s n l : ℕ) → s < 8 → in_payload (stage_from s n l) ≡ false
 unfolding stage_in
