@@ -1,6 +1,7 @@
 // Why a message was not written.
-ghost use Rattle.std.specs.Prelude.{◌≡◌};
+ghost use Rattle.std.specs.Prelude.{◌≡◌, Some};
 ghost use Rattle.serializer.specs.Answer.{number_of};
+ghost use Rattle.serializer.specs.Text.{text_of};
 
 use std::error::Error;
 use std::fmt;
@@ -25,6 +26,8 @@ impl PacketError {
 }
 
 impl fmt::Display for PacketError {
+    ghost output = { λ e. Some (text_of e) };
+
     fn fmt<W: fmt::Write>(&self, f: &mut fmt::Formatter<W>) -> fmt::Result {
         f.write_str(match self {
             PacketError::NoPayload => "a message has no payload",
