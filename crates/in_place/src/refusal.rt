@@ -1,4 +1,7 @@
 // Why a call is refused that is not refused by its bytes.
+ghost use Rattle.std.specs.Prelude.{Some};
+ghost use Rattle.in_place.specs.Text.{text_of};
+
 use std::error::Error;
 use std::fmt;
 
@@ -23,6 +26,8 @@ impl Refusal {
 }
 
 impl fmt::Display for Refusal {
+    ghost output = { λ e. Some (text_of e) };
+
     fn fmt<W: fmt::Write>(&self, f: &mut fmt::Formatter<W>) -> fmt::Result {
         write!(f, "refused {}", self.number)
     }
