@@ -53,11 +53,20 @@ pub fn swap_bytes(value: u32) -> u32
     value.swap_bytes()
 }
 
+fn copy(bytes: &[u8], output: &mut [u8])
+    requires { length output.old ≡ length bytes.now }
+    ensures { output.new ≡ bytes.now }
+{
+    for i in 0..bytes.len() {
+        output[i] = bytes[i];
+    }
+}
+
 // Puts the bytes from `at` on; where the output does not reach that far it stays as it is.
 pub fn put_bytes(bytes: &[u8], output: &mut [u8], at: usize)
     ensures { output.new ≡ stored output.old at bytes.now }
 {
     if bytes.len() <= output.len() && at <= output.len() - bytes.len() {
-        output[at..at + bytes.len()].copy_from_slice(bytes);
+        copy(bytes, &mut output[at..at + bytes.len()]);
     }
 }

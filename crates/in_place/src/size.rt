@@ -34,12 +34,17 @@ fn fresh(held: &mut [u32; 24], rows: &mut [u32; TABLE_LENGTH], room: u32, closed
 pub fn make(held: &mut [u32; 24], rows: &mut [u32; TABLE_LENGTH], room: u32) -> Result<(), Refusal>
     ensures { LentSize (size_of result) held.new rows.new (made room) }
 {
-    if room == 0 || LARGEST_ROOM < room {
-        fresh(held, rows, room, Refusal::ROOM_OUTSIDE_LIMITS.number);
-        return Err(Refusal::ROOM_OUTSIDE_LIMITS);
-    }
-    fresh(held, rows, room, 0);
-    Ok(())
+    let told = if room == 0 || LARGEST_ROOM < room {
+        Err(Refusal::ROOM_OUTSIDE_LIMITS)
+    } else {
+        Ok(())
+    };
+    let closed = match told {
+        Ok(()) => 0,
+        Err(refusal) => refusal.number,
+    };
+    fresh(held, rows, room, closed);
+    told
 }
 
 // No byte of a message has come that has not ended.

@@ -21,10 +21,12 @@ impl Decoder {
     pub fn new(room: u32) -> Self
         ensures { Stands result.held result.rows (made room).deserializer }
     {
-        let mut held = [0; 24];
-        let mut rows = [0; TABLE_LENGTH];
-        let _ = make(&mut held, &mut rows, room);
-        Decoder { held, rows }
+        let mut decoder = Decoder {
+            held: [0; 24],
+            rows: [0; TABLE_LENGTH],
+        };
+        let _ = make(&mut decoder.held, &mut decoder.rows, room);
+        decoder
     }
 
     pub fn next_message(&mut self, input: &[u8], payload: &mut [u8]) -> Answer

@@ -9,7 +9,7 @@ pub returns-then-at-output : goal.returns-then-at-output
 returns-then-at-output c =
     let a = c.args in
     let n = length a.bytes.now in
-    rw (c.copy_from_slice.ensures.after, add-sub_cancel_left a.at n) (part_stored a.output.now a.bytes.now a.at n refl (omega arith))
+    rw (c.copy.ensures, add-sub_cancel_left a.at n) (part_stored a.output.now a.bytes.now a.at n refl (omega arith))
 
 pub returns-else-bytes-output : goal.returns-else-bytes-output
 returns-else-bytes-output c =
