@@ -3,3 +3,4 @@ pub mod Formats
 pub mod Refusals
 pub mod Samples
 pub mod Stages
+pub mod Unique
