@@ -2,12 +2,12 @@
 // codec. A test tool: it is proved safe and ending, and promises of a text what is put into it.
 #![tactic(auto)]
 
-mod hex;
+mod digits;
 mod refused;
 mod text;
 mod written;
 
-pub use crate::hex::Hex;
+pub use crate::digits::Hex;
 pub use crate::refused::Refused;
 pub use crate::text::Text;
 pub use crate::written::Written;

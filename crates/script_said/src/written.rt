@@ -1,5 +1,5 @@
 // What calls that write bytes answer.
-use crate::hex::Hex;
+use crate::digits::Hex;
 use crate::refused::Refused;
 use std::fmt;
 use std::fmt::Write;
