@@ -2,7 +2,7 @@
 use script_bodies::{make_body, make_control, make_settings, make_time};
 use script_calls::{InPlace, make_dec, make_enc};
 use script_lines::LONGEST_LINE;
-use script_plans::make_plan;
+use script_plans::{Plan, make_plan};
 use script_text::split_words;
 use serializer::ChunkSerializer;
 use std::fmt::Write;
@@ -24,6 +24,7 @@ const FIRST_ROOM: u32 = 65536;
 pub struct Calls {
     encoder: ChunkSerializer,
     decoder: InPlace,
+    plan: Plan,
     bytes: [u8; BYTES_LENGTH],
     output: [u8; OUTPUT_LENGTH],
     payload: [u8; PAYLOAD_LENGTH],
@@ -35,6 +36,7 @@ impl Calls {
         Calls {
             encoder: ChunkSerializer::new(),
             decoder: InPlace::new(FIRST_ROOM),
+            plan: Plan::new(),
             bytes: [0; BYTES_LENGTH],
             output: [0; OUTPUT_LENGTH],
             payload: [0; PAYLOAD_LENGTH],
@@ -56,7 +58,7 @@ impl Calls {
             "time" => make_time(words, text),
             "control" => make_control(words, bytes, output, text),
             "settings" => make_settings(words, bytes, output, text),
-            "plan" => make_plan(words, bytes, text),
+            "plan" => make_plan(&mut self.plan, words, bytes, text),
             "body" => make_body(words, bytes, output, text),
             _ => None,
         }

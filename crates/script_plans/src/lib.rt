@@ -5,3 +5,4 @@ mod plan_calls;
 mod queues;
 
 pub use crate::plan_calls::make_plan;
+pub use crate::queues::Plan;

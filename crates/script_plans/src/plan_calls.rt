@@ -1,5 +1,5 @@
 // The calls of the planner and of its check.
-use crate::queues::{Queue, read_places};
+use crate::queues::Plan;
 use drop_plan::{Places, PlanError};
 use script_said::Refused;
 use script_text::{read_hex, read_number};
@@ -7,7 +7,7 @@ use std::fmt;
 use std::fmt::Write;
 
 // Places whose text is four bytes a place in hex, and a dash for none.
-// Kept: hex here, in script_said, captures and trip: items of another width, or the first four alone, each by one `write!` in a loop.
+// Kept: hex here, in captures and trip: items of another width, or few bytes, each by one `write!` in a loop.
 #[derive(Clone, Copy)]
 struct Hex<'a>(&'a [u32]);
 
@@ -44,20 +44,28 @@ fn put_verdict(text: &mut impl Write, verdict: Result<(), PlanError>) -> fmt::Re
 }
 
 // Makes the call that the words are, and puts its answer; none where they are no call.
-pub fn make_plan(words: &[&str], bytes: &mut [u8], text: &mut impl Write) -> Option<()> {
+pub fn make_plan(
+    plan: &mut Plan,
+    words: &[&str],
+    bytes: &mut [u8],
+    text: &mut impl Write,
+) -> Option<()> {
     let ["plan", name, limit, queue, places @ ..] = words else {
         return None;
     };
     let limit = read_number(limit)?;
-    let queue = Queue::read(read_hex(queue, bytes)?)?;
-    let (lengths, droppable) = queue.slices();
+    plan.read_queue(read_hex(queue, bytes)?)?;
     match (*name, places) {
-        ("make", []) => put_proposal(text, drop_plan::propose(lengths, droppable, limit)).ok(),
+        ("make", []) => {
+            let (lengths, droppable) = plan.queue();
+            put_proposal(text, drop_plan::propose(lengths, droppable, limit)).ok()
+        }
         ("check", [places]) => {
-            let places = read_places(read_hex(places, bytes)?)?;
+            plan.read_places(read_hex(places, bytes)?)?;
+            let (lengths, droppable) = plan.queue();
             put_verdict(
                 text,
-                drop_plan::judge(lengths, droppable, limit, places.as_slice()),
+                drop_plan::judge(lengths, droppable, limit, plan.places()),
             )
             .ok()
         }
