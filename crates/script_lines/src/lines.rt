@@ -1,7 +1,7 @@
 // Lines of standard input, in a buffer of fixed length.
 ghost use Rattle.script_lines.specs.Lines.{Begins};
 ghost use Rattle.script_lines.specs.declared.lines.TheConstants.{INPUT_LENGTH};
-ghost use Rattle.std.specs.Prelude.{◌≡◌, ℕ, ◌-◌, ◌≤◌, List, [], drop, length, take};
+ghost use Rattle.std.specs.Prelude.{◌≡◌, ℕ, ◌-◌, ◌<◌, ◌≤◌, ◌↔◌, List, [], drop, length, take, IsTrue, MatchResult};
 
 use std::io;
 use std::io::Read;
@@ -67,7 +67,9 @@ impl Lines {
 
     // Lets the whole lines go, reads more behind what begins a line, once, and answers whether anything came.
     pub fn read_more(&mut self, rt: &impl Input) -> io::Result<bool>
-        ensures { (k : ℕ) × Begins self.old k × (take (length self.old - k) self.new ≡ drop k self.old) }
+        // what began at k stands at the start, and something behind it exactly where the answer is yes
+        ensures { (k : ℕ) × Begins self.old k × (take (length self.old - k) self.new ≡ drop k self.old) ×
+            MatchResult result (λ more. IsTrue more ↔ (length self.old - k < length self.new)) (λ _. self.new ≡ drop k self.old) }
     {
         let start = unfinished(self.read());
         self.bytes.copy_within(start..self.filled, 0);

@@ -7,7 +7,7 @@ use std::str::FromStr;
 pub fn read_number<N: FromStr>(word: &str) -> Option<N>
 where
     N::Err: Drop,
-    ensures digit { IsSome result → 48 ≤ slice_index word.now 0 }
+    ensures digit { IsSome result → (48 ≤ slice_index word.now 0) × (slice_index word.now 0 ≤ 57) }
     ensures no_leading_zero { IsSome result → slice_index word.now 0 ≡ 48 → length word.now ≡ 1 }
 {
     match word.as_bytes() {
