@@ -1,5 +1,6 @@
 pub mod Lists
 pub mod Steps
+pub mod Filling
 pub mod Rest
 pub mod Members
 pub mod Rising

@@ -1,10 +1,11 @@
 -- The words of specs/ are std's words on lists, by which the chains of src/ are known.
-use Rattle.std.proofs.Common.{◌≡◌, ℕ, zero, suc, ◌+◌, Bool, ◌==◌, List, [], ◌∷◌, get_or, refl, ap, ◌∙◌, sym, add-one}
-use Rattle.std.specs.List.{filter, list_all, list_any, range_with_len, sum_by}
+use Rattle.std.proofs.Common.{◌≡◌, ℕ, zero, suc, ◌+◌, Bool, cond, ◌==◌, List, [], ◌∷◌, get_or, refl, ap, ◌∙◌, sym, add-one}
+use Rattle.std.specs.List.{list_all, list_any, range_with_len, sum_by}
 use Rattle.std.proofs.lemmas.List.Sums.{sum_by-cons}
 use Rattle.drop_plan.specs.Check.{among, every}
 use Rattle.drop_plan.specs.Plan.{rest, staying}
 use Rattle.drop_plan.specs.Queue.{Queue, places_from, size, those, total}
+use Rattle.drop_plan.proofs.Steps.{total_those}
 
 pub every_all : (test : ℕ → Bool) (ks : List ℕ) → every test ks ≡ list_all test ks
 unfolding every
@@ -15,11 +16,6 @@ pub among_any : (p : ℕ) (ks : List ℕ) → among p ks ≡ list_any (λ k. k =
 unfolding among
 among_any p [] = refl
 among_any p (k ∷ ks) = rw (among_any p ks)
-
-pub those_filter : (test : ℕ → Bool) (ks : List ℕ) → those test ks ≡ filter test ks
-unfolding those
-those_filter test [] = refl
-those_filter test (k ∷ ks) = rw (those_filter test ks)
 
 pub total_sum : (lengths ks : List ℕ) → total lengths ks ≡ sum_by (λ p. get_or lengths p 0) ks
 unfolding total
@@ -35,6 +31,16 @@ places_range p (suc n) = rw (add-one, places_range (suc p) n)
 pub every_place : (test : ℕ → Bool) (n : ℕ) → every test (places_from 0 n) ≡ list_all test (range_with_len 0 n)
 every_place test n = every_all test (places_from 0 n) ∙ ap (list_all test) (places_range 0 n)
 
+-- what those that pass a test add up to, with 0 for each of the others
+total_passing : (lengths : List ℕ) (test : ℕ → Bool) (ks : List ℕ)
+    → total lengths (those test ks) ≡ sum_by (λ p. cond (test p) (get_or lengths p 0) 0) ks
+unfolding total those
+total_passing lengths test [] = refl
+total_passing lengths test (k ∷ ks) =
+    total_those lengths test k ks
+    ∙ ap (λ (n : ℕ). cond (test k) (get_or lengths k 0) 0 + n) (total_passing lengths test ks)
+    ∙ sym (sum_by-cons (λ p. cond (test p) (get_or lengths p 0) 0) k ks)
+
 pub total_rest : (q : Queue) (start : ℕ)
-    → total q.lengths (rest q start) ≡ sum_by (λ p. get_or q.lengths p 0) (filter (staying q.marks start) (range_with_len 0 (size q)))
-total_rest q start = rw (total_sum, those_filter, places_range)
+    → total q.lengths (rest q start) ≡ sum_by (λ p. cond (staying q.marks start p) (get_or q.lengths p 0) 0) (range_with_len 0 (size q))
+total_rest q start = rw (← places_range) (total_passing q.lengths (staying q.marks start) (places_from 0 (size q)))

@@ -1,10 +1,10 @@
 // The planner's plan: where the packets to drop end, and the places that stay.
-ghost use Rattle.std.specs.Prelude.{◌≡◌};
+ghost use Rattle.std.specs.Prelude.{◌≡◌, ◌^◌, ◌<◌, cond};
 ghost use Rattle.drop_plan.specs.Plan.{rest, staying, until};
-ghost use Rattle.drop_plan.specs.Queue.{size, total};
+ghost use Rattle.drop_plan.specs.Queue.{length_at, size, total};
 
-use crate::Places;
 use crate::queue::Queue;
+use crate::{MOST, Places};
 
 impl Queue<'_> {
     // Whether a packet stays where the droppable ones before `start` are dropped.
@@ -14,13 +14,24 @@ impl Queue<'_> {
         start <= place || !self.is_droppable(place)
     }
 
+    // The length of a packet that stays, and 0 of one that is dropped.
+    fn staying_length(&self, start: usize, place: usize) -> u64
+        ensures length { result ≡ cond (staying self.now.marks start place) (length_at self.now place) 0 }
+        ensures small { result < 2 ^ 32 }
+    {
+        if self.stays(start, place) {
+            self.length_at(place)
+        } else {
+            0
+        }
+    }
+
     // The lengths of those that stay, added up.
     pub fn rest_length(&self, start: usize) -> u64
         ensures { result ≡ total self.now.lengths (rest self.now start) }
     {
         (0..self.len())
-            .filter(|place| self.stays(start, *place))
-            .map(|place| self.length_at(place))
+            .map(|place| self.staying_length(start, place))
             .sum()
     }
 
@@ -46,12 +57,14 @@ impl Queue<'_> {
     pub fn rest(&self, start: usize) -> Places
         ensures { result ≡ rest self.now start }
     {
-        let mut kept = Places::new();
+        let mut array = [0; MOST];
+        let mut count = 0;
         for place in 0..self.len() {
             if self.stays(start, place) {
-                kept.push(place as u32);
+                array[count] = place as u32;
+                count += 1;
             }
         }
-        kept
+        Places::first_of(count, array)
     }
 }

@@ -1,6 +1,7 @@
 // Places in a queue.
-ghost use Rattle.std.specs.Prelude.{◌≡◌, ◌<◌, ◌≤◌, [], ◌∷◌, ◌++◌, length, replicate};
+ghost use Rattle.std.specs.Prelude.{◌≡◌, ◌≤◌, length, replicate, take};
 ghost use Rattle.fields.specs.Output.{over};
+ghost use Rattle.drop_plan.specs.Places.{Filled};
 ghost use Rattle.drop_plan.specs.Queue.{most};
 
 use crate::MOST;
@@ -31,23 +32,12 @@ impl Model for Places {
 }
 
 impl Places {
-    // None yet.
-    pub(crate) fn new() -> Self
-        ensures { result ≡ [] }
+    // The first of an array whose others are 0.
+    pub(crate) fn first_of(count: usize, array: [u32; MOST]) -> Self
+        requires { Filled count array }
+        ensures { result ≡ take count array }
     {
-        Places {
-            array: [0; MOST],
-            count: 0,
-        }
-    }
-
-    // One more behind the others.
-    pub(crate) fn push(&mut self, place: u32)
-        requires { length self.old < most }
-        ensures { self.new ≡ self.old ++ place ∷ [] }
-    {
-        self.array[self.count] = place;
-        self.count += 1;
+        Places { array, count }
     }
 
     // The places.
