@@ -53,6 +53,8 @@ pub fn swap_bytes(value: u32) -> u32
     value.swap_bytes()
 }
 
+// Fills the whole of `output` with the bytes.
+// Kept: a loop by hand, as with the library's copy an archive for C needs `memmove` from outside.
 fn copy(bytes: &[u8], output: &mut [u8])
     requires { length output.old ≡ length bytes.now }
     ensures { output.new ≡ bytes.now }

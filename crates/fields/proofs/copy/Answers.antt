@@ -1,3 +1,4 @@
+-- A byte put at i is the next of the bytes, and stands before what the output still has.
 use Rattle.std.proofs.Common.{◌≡◌, ◌≤◌, ◌<◌, ◌+◌, length, refl, ◌∙◌, arith, length-set}
 use mathlib.Core.List.{append-nil}
 use native.Mathlib.Nat.{zero-add}
