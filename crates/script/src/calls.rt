@@ -21,22 +21,22 @@ const FIRST_ROOM: u32 = 65536;
 
 // What calls are made on, kept from line to line, and what they are lent.
 #[derive(Drop)]
-pub struct Calls {
+pub struct Calls<'a> {
     encoder: ChunkSerializer,
     decoder: InPlace,
-    plan: Plan,
+    plan: &'a mut Plan,
     bytes: [u8; BYTES_LENGTH],
     output: [u8; OUTPUT_LENGTH],
     payload: [u8; PAYLOAD_LENGTH],
 }
 
-impl Calls {
+impl<'a> Calls<'a> {
     // A fresh encoder and a fresh decoder.
-    pub fn new() -> Self {
+    pub fn new(plan: &'a mut Plan) -> Self {
         Calls {
             encoder: ChunkSerializer::new(),
             decoder: InPlace::new(FIRST_ROOM),
-            plan: Plan::new(),
+            plan,
             bytes: [0; BYTES_LENGTH],
             output: [0; OUTPUT_LENGTH],
             payload: [0; PAYLOAD_LENGTH],
@@ -58,7 +58,7 @@ impl Calls {
             "time" => make_time(words, text),
             "control" => make_control(words, bytes, output, text),
             "settings" => make_settings(words, bytes, output, text),
-            "plan" => make_plan(&mut self.plan, words, bytes, text),
+            "plan" => make_plan(self.plan, words, bytes, text),
             "body" => make_body(words, bytes, output, text),
             _ => None,
         }

@@ -1,6 +1,7 @@
 // A run, line by line.
 use crate::calls::Calls;
 use script_lines::{LONGEST_LINE, Lines, is_skipped};
+use script_plans::Plan;
 use script_said::Text;
 use std::fmt::Write;
 use std::io;
@@ -14,18 +15,18 @@ const LONGEST_WAIT: usize = 65536;
 
 // What is kept from line to line.
 #[derive(Drop)]
-struct Turns {
-    calls: Calls,
+struct Turns<'a> {
+    calls: Calls<'a>,
     answers: Text<TEXT_LENGTH>,
     // how many lines were taken
     taken: u64,
 }
 
-impl Turns {
+impl<'a> Turns<'a> {
     // Before the first line.
-    fn new() -> Self {
+    fn new(plan: &'a mut Plan) -> Self {
         Turns {
-            calls: Calls::new(),
+            calls: Calls::new(plan),
             answers: Text::new(),
             taken: 0,
         }
@@ -75,7 +76,8 @@ impl Turns {
 // are counted up to a number that no run reaches.
 pub fn run(rt: &(impl Input + Print)) -> io::Result<()> {
     let mut lines = Lines::new();
-    let mut turns = Turns::new();
+    let mut plan = Plan::new();
+    let mut turns = Turns::new(&mut plan);
     for _ in 0..u64::MAX {
         let goes_on = turns.answer_read(rt, lines.read())?;
         turns.write_answers(rt)?;
