@@ -1,6 +1,6 @@
 -- The words of specs/ are std's words on lists, by which the chains of src/ are known.
 use Rattle.std.proofs.Common.{◌≡◌, ℕ, zero, suc, ◌+◌, Bool, cond, ◌==◌, List, [], ◌∷◌, get_or, refl, ap, ◌∙◌, sym, add-one}
-use Rattle.std.specs.List.{list_all, list_any, range_with_len, sum_by}
+use Rattle.std.specs.List.{filter, list_all, list_any, range_with_len, sum_by}
 use Rattle.std.proofs.lemmas.List.Sums.{sum_by-cons}
 use Rattle.drop_plan.specs.Check.{among, every}
 use Rattle.drop_plan.specs.Plan.{rest, staying}
@@ -17,6 +17,11 @@ unfolding among
 among_any p [] = refl
 among_any p (k ∷ ks) = rw (among_any p ks)
 
+pub those_filter : (test : ℕ → Bool) (ks : List ℕ) → those test ks ≡ filter test ks
+unfolding those
+those_filter test [] = refl
+those_filter test (k ∷ ks) = rw (those_filter test ks)
+
 pub total_sum : (lengths ks : List ℕ) → total lengths ks ≡ sum_by (λ p. get_or lengths p 0) ks
 unfolding total
 total_sum lengths [] = refl
@@ -31,6 +36,10 @@ places_range p (suc n) = rw (add-one, places_range (suc p) n)
 pub every_place : (test : ℕ → Bool) (n : ℕ) → every test (places_from 0 n) ≡ list_all test (range_with_len 0 n)
 every_place test n = every_all test (places_from 0 n) ∙ ap (list_all test) (places_range 0 n)
 
+pub total_rest : (q : Queue) (start : ℕ)
+    → total q.lengths (rest q start) ≡ sum_by (λ p. get_or q.lengths p 0) (filter (staying q.marks start) (range_with_len 0 (size q)))
+total_rest q start = rw (total_sum, those_filter, places_range)
+
 -- what those that pass a test add up to, with 0 for each of the others
 total_passing : (lengths : List ℕ) (test : ℕ → Bool) (ks : List ℕ)
     → total lengths (those test ks) ≡ sum_by (λ p. cond (test p) (get_or lengths p 0) 0) ks
@@ -41,6 +50,7 @@ total_passing lengths test (k ∷ ks) =
     ∙ ap (λ (n : ℕ). cond (test k) (get_or lengths k 0) 0 + n) (total_passing lengths test ks)
     ∙ sym (sum_by-cons (λ p. cond (test p) (get_or lengths p 0) 0) k ks)
 
-pub total_rest : (q : Queue) (start : ℕ)
+-- the sum of `total_rest` over all places, as `rest_length` adds it up
+pub total_staying : (q : Queue) (start : ℕ)
     → total q.lengths (rest q start) ≡ sum_by (λ p. cond (staying q.marks start p) (get_or q.lengths p 0) 0) (range_with_len 0 (size q))
-total_rest q start = rw (← places_range) (total_passing q.lengths (staying q.marks start) (places_from 0 (size q)))
+total_staying q start = rw (← places_range) (total_passing q.lengths (staying q.marks start) (places_from 0 (size q)))

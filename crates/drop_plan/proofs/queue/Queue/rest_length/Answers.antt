@@ -5,7 +5,7 @@ use Rattle.std.proofs.lemmas.Iterator.Consumers.{sum_by_from_yields_List}
 use Rattle.std.proofs.lemmas.List.FromFn.{length-range_with_len}
 use Rattle.drop_plan.specs.Plan.{staying}
 use Rattle.drop_plan.specs.Queue.{size}
-use Rattle.drop_plan.proofs.Lists.{total_rest}
+use Rattle.drop_plan.proofs.Lists.{total_staying}
 use Rattle.drop_plan.proofs.queue.Queue.rest_length.Goals as goal
 
 pub sum-requires-clause-fits : goal.sum-requires-clause-fits
@@ -19,4 +19,4 @@ returns c =
     let n = size q in
     sum_by_from_yields_List (λ p. cond (staying q.marks c.args.start p) (get_or q.lengths p 0) 0) _ _ _ c.sum.ensures.ran
     (YieldsList-from_map _ _ (YieldsList-from_range 0 n n (cc) (omega arith)) c.map.ensures.closure (λ x r f k. search rules))
-    ∙ sym (total_rest q c.args.start)
+    ∙ sym (total_staying q c.args.start)
