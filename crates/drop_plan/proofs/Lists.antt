@@ -50,7 +50,7 @@ total_passing lengths test (k ∷ ks) =
     ∙ ap (λ (n : ℕ). cond (test k) (get_or lengths k 0) 0 + n) (total_passing lengths test ks)
     ∙ sym (sum_by-cons (λ p. cond (test p) (get_or lengths p 0) 0) k ks)
 
--- the sum of `total_rest` over all places, as `rest_length` adds it up
+-- the same total as the sum over all places, with 0 for one that is dropped: so `rest_length` adds it up
 pub total_staying : (q : Queue) (start : ℕ)
     → total q.lengths (rest q start) ≡ sum_by (λ p. cond (staying q.marks start p) (get_or q.lengths p 0) 0) (range_with_len 0 (size q))
 total_staying q start = rw (← places_range) (total_passing q.lengths (staying q.marks start) (places_from 0 (size q)))
